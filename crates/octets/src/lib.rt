@@ -1,0 +1,1 @@
+// Lists of bytes: the definitions stand in specs/, their laws in proofs/.

@@ -1,0 +1,159 @@
+-- Document 01, "Cases": P1 to P10 as one list, each from the sample card, and the theorem's statement.
+use Prim.Native.Nat.{ℕ, zero, suc, _-_}
+use mathlib.Core.Path.{_≡_}
+use mathlib.Core.Bool.{Bool, true, false, cond}
+use mathlib.Core.List.{List, [], _∷_, _++_, map}
+use lib.ListN.{length, take, drop, replicate}
+use lib.Dec.{eqb}
+use Rattle.octets.specs.Octets.{Bytes}
+use Rattle.pkcs1.specs.Pkcs1.{pad}
+use Rattle.rules.specs.declared.Card.{Card}
+use Rattle.rules.specs.declared.Reply.{Reply}
+use Rattle.rules.specs.declared.Reply.the-variants.{Refused, Response, HandedOut, WasReset}
+use Rattle.rules.specs.Codes.{PUK, PIN1, PIN2, codeOf}
+use Rattle.rules.specs.Keys.{kindNumber}
+use Rattle.rules.specs.Digests.{sha1Prefix}
+use Rattle.rules.specs.Edge.{refusalNumber}
+use Rattle.rules.specs.Counting.{Call, Command, Delivery, PowerReset, Exchange, trace, after, replyStatus}
+use Rattle.rules.specs.Sample.{sampleCard, pin1, pin2, puk}
+
+-- What is seen of a call: response data and status word, a job's kind and key, an edge refusal's number, or a reset;
+-- of a code afterwards: its number, tries and mark; of padding: its answer, and how many bytes FF stand after 00 01.
+pub data Seen : Type 0 where
+  shows : Bytes → ℕ → Seen
+  hands : ℕ → ℕ → Seen
+  edge : ℕ → Seen
+  isReset : Seen
+  code : ℕ → ℕ → Bool → Seen
+  pads : ℕ → ℕ → Seen
+
+abbrev pub seenOf : Reply → Bytes → Seen
+seenOf (Refused r) buffer = edge (refusalNumber r)
+seenOf (Response n) buffer = shows (take (n - 2) buffer) (replyStatus (Response n) buffer)
+seenOf (HandedOut kind key) buffer = hands (kindNumber kind) key
+seenOf WasReset buffer = isReset
+
+abbrev pub codeSeen : Card → ℕ → Seen
+codeSeen c k = code k (codeOf c k .tries) (codeOf c k .verified)
+
+-- Calls from the sample card: what each shows, and then the three codes.
+unfoldable pub onSample : List Call → List Seen
+onSample calls =
+    map (λ e. seenOf (e .reply) (e .buffer)) (trace sampleCard calls)
+    ++ codeSeen (after sampleCard calls) PUK ∷ codeSeen (after sampleCard calls) PIN1 ∷ codeSeen (after sampleCard calls) PIN2 ∷ []
+
+-- How many bytes FF a string starts with.
+abbrev pub countFF : Bytes → ℕ
+countFF [] = 0
+countFF (x ∷ xs) = cond (eqb x 0xFF) (suc (countFF xs)) 0
+
+-- Padding of n bytes 55 in a buffer of 256 zeros.
+unfoldable pub padding : ℕ → List Seen
+padding n =
+    let done = pad (replicate n 0x55) (replicate 256 0x00) in
+    pads (done .0) (countFF (drop 2 (done .1))) ∷ []
+
+-- A case: what is seen, and what is to be seen.
+pub record Case : Type 0 where
+  pub seen : List Seen
+  pub expected : List Seen
+
+-- A command with any certificates and a buffer of 258 bytes; a delivery into such a buffer.
+abbrev pub send : Bytes → Call
+send apdu = Command apdu (0x30 ∷ []) (0x30 ∷ []) (replicate 258 0xEE)
+
+abbrev pub deliverTo : Bytes → Call
+deliverTo result = Delivery result (replicate 258 0xEE)
+
+-- Commands of the cases, by their bytes.
+abbrev pub withBody : ℕ → ℕ → ℕ → ℕ → Bytes → Call
+withBody cla ins p1 p2 d = send (cla ∷ ins ∷ p1 ∷ p2 ∷ length d ∷ d)
+
+abbrev pub verifyOf : ℕ → Bytes → Call
+verifyOf k d = withBody 0x00 0x20 0x00 k d
+
+abbrev pub wrongPin1 : Call
+wrongPin1 = verifyOf PIN1 (0x39 ∷ 0x39 ∷ 0x39 ∷ 0x39 ∷ [])
+
+abbrev pub signSha1 : Call
+signSha1 = withBody 0x00 0x2A 0x9E 0x9A (sha1Prefix ++ replicate 20 0x07)
+
+abbrev pub changePin1To12 : Call
+changePin1To12 = withBody 0x00 0x24 0x00 PIN1 (pin1 ++ 0x31 ∷ 0x32 ∷ [])
+
+abbrev pub chooseKeyOf : ℕ → ℕ → ℕ → Call
+chooseKeyOf p2 high low = withBody 0x00 0x22 0x41 p2 (0x83 ∷ 0x03 ∷ 0x80 ∷ high ∷ low ∷ [])
+
+abbrev pub decipherPart : ℕ → ℕ → Call
+decipherPart cla n = withBody cla 0x2A 0x80 0x86 (replicate n 0x00)
+
+-- A status word alone; the codes when nothing happened to them.
+abbrev pub sw : ℕ → Seen
+sw = shows []
+
+abbrev pub fresh : List Seen
+fresh = code PUK 3 false ∷ code PIN1 3 false ∷ code PIN2 3 false ∷ []
+
+unfoldable pub cases : List Case
+cases =
+    -- P1 wrong PIN1 three times: 63C2, 63C1, 63C0; then the right one: 6983
+    record {
+      seen = onSample (wrongPin1 ∷ wrongPin1 ∷ wrongPin1 ∷ verifyOf PIN1 pin1 ∷ []);
+      expected = sw 0x63C2 ∷ sw 0x63C1 ∷ sw 0x63C0 ∷ sw 0x6983 ∷ code PUK 3 false ∷ code PIN1 0 false ∷ code PIN2 3 false ∷ [];
+    }
+    -- P1 and record 1 of 0016h: the tries left are those that 63Cx told
+    ∷ record {
+      seen = onSample (wrongPin1 ∷ send (0x00 ∷ 0xA4 ∷ 0x02 ∷ 0x0C ∷ 0x02 ∷ 0x00 ∷ 0x16 ∷ []) ∷ send (0x00 ∷ 0xB2 ∷ 0x01 ∷ 0x04 ∷ 0x00 ∷ []) ∷ []);
+      expected = sw 0x63C2 ∷ sw 0x9000
+          ∷ shows (0x80 ∷ 0x01 ∷ 0x03 ∷ 0x90 ∷ 0x01 ∷ 0x02 ∷ 0x83 ∷ 0x02 ∷ 0x00 ∷ 0x00 ∷ []) 0x9000
+          ∷ code PUK 3 false ∷ code PIN1 2 false ∷ code PIN2 3 false ∷ [];
+    }
+    -- P2 PIN2 right, sign twice with a delivery between: job, then 6982; a delivery of 256 bytes, and one of none
+    ∷ record {
+      seen = onSample (verifyOf PIN2 pin2 ∷ signSha1 ∷ deliverTo (replicate 256 0x5A) ∷ signSha1 ∷ []);
+      expected = sw 0x9000 ∷ hands 2 0x0100 ∷ sw 0x6100 ∷ sw 0x6982 ∷ fresh;
+    }
+    ∷ record {
+      seen = onSample (verifyOf PIN2 pin2 ∷ signSha1 ∷ deliverTo [] ∷ signSha1 ∷ []);
+      expected = sw 0x9000 ∷ hands 2 0x0100 ∷ sw 0x6400 ∷ sw 0x6982 ∷ fresh;
+    }
+    -- P3 00 2C 03 01: 6A86
+    ∷ record { seen = onSample (send (0x00 ∷ 0x2C ∷ 0x03 ∷ 0x01 ∷ []) ∷ []); expected = sw 0x6A86 ∷ fresh }
+    -- P4 CHANGE PIN1, old right, new "12": 6A80, tries and mark unchanged; also after a wrong value and after a right one
+    ∷ record { seen = onSample (changePin1To12 ∷ []); expected = sw 0x6A80 ∷ fresh }
+    ∷ record {
+      seen = onSample (wrongPin1 ∷ changePin1To12 ∷ []);
+      expected = sw 0x63C2 ∷ sw 0x6A80 ∷ code PUK 3 false ∷ code PIN1 2 false ∷ code PIN2 3 false ∷ [];
+    }
+    ∷ record {
+      seen = onSample (verifyOf PIN1 pin1 ∷ changePin1To12 ∷ []);
+      expected = sw 0x9000 ∷ sw 0x6A80 ∷ code PUK 3 false ∷ code PIN1 3 true ∷ code PIN2 3 false ∷ [];
+    }
+    -- P5 VERIFY PIN2 "1234": 63C2
+    ∷ record {
+      seen = onSample (verifyOf PIN2 pin1 ∷ []);
+      expected = sw 0x63C2 ∷ code PUK 3 false ∷ code PIN1 3 false ∷ code PIN2 2 false ∷ [];
+    }
+    -- P6 empty command: 6700; 261 bytes FF: 6E00 (Lc 255 with Le fits); 262: 6700
+    ∷ record {
+      seen = onSample (send [] ∷ send (replicate 261 0xFF) ∷ send (replicate 262 0xFF) ∷ []);
+      expected = sw 0x6700 ∷ sw 0x6E00 ∷ sw 0x6700 ∷ fresh;
+    }
+    -- P7 10 20 00 01: 6884
+    ∷ record { seen = onSample (send (0x10 ∷ 0x20 ∷ 0x00 ∷ 0x01 ∷ []) ∷ []); expected = sw 0x6884 ∷ fresh }
+    -- P8 22 41 B8 with 83 03 80 01 00: 6A80; B6 with 83 03 80 02 00: 6A88
+    ∷ record {
+      seen = onSample (chooseKeyOf 0xB8 0x01 0x00 ∷ chooseKeyOf 0xB6 0x02 0x00 ∷ []);
+      expected = sw 0x6A80 ∷ sw 0x6A88 ∷ fresh;
+    }
+    -- P9 decipher parts of 255 zero bytes (class 10h) and 2 bytes (class 00h) join to 257: 9000, then 6985; 255 and 3: 9000, then 6700
+    ∷ record { seen = onSample (decipherPart 0x10 255 ∷ decipherPart 0x00 2 ∷ []); expected = sw 0x9000 ∷ sw 0x6985 ∷ fresh }
+    ∷ record { seen = onSample (decipherPart 0x10 255 ∷ decipherPart 0x00 3 ∷ []); expected = sw 0x9000 ∷ sw 0x6700 ∷ fresh }
+    -- P10 padding n = 245 has 8 FF bytes; 246 is refused
+    ∷ record { seen = padding 245; expected = pads 256 8 ∷ [] }
+    ∷ record { seen = padding 246; expected = pads 0 0 ∷ [] }
+    ∷ []
+
+-- P1 to P10, together.
+abbrev pub PCases : Type 0
+PCases = map (λ x. x .seen) cases ≡ map (λ x. x .expected) cases

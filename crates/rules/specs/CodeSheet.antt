@@ -1,0 +1,98 @@
+-- What opens and closes a code, what moves its retry counter, and what stores a value: the code after any call, in terms of the code
+-- before it, the call's bytes and its answer. One sheet for the three codes.
+use Prim.Native.Nat.{ℕ, _+_, _-_, _≤_, _<_}
+use mathlib.Core.Path.{_≡_}
+use mathlib.Core.Bool.{Bool, true, false, cond, not, _&&_, _||_}
+use mathlib.Core.List.{List, []}
+use lib.ListN.{length, drop}
+use lib.Dec.{eqb, leb}
+use Rattle.octets.specs.Octets.{Bytes}
+use Rattle.rules.specs.declared.Card.{Card}
+use Rattle.rules.specs.declared.Header.{Header}
+use Rattle.rules.specs.declared.Parsed.{Parsed}
+use Rattle.rules.specs.declared.Parsed.the-variants.{Form, Malformed}
+use Rattle.rules.specs.declared.Reply.{Reply}
+use Rattle.rules.specs.declared.Reply.the-variants.{Refused, Response, HandedOut, WasReset}
+use Rattle.rules.specs.Codes.{PUK, PIN2, fullTries, value, codeOf}
+use Rattle.rules.specs.Apdu.{parse, dataOf}
+use Rattle.rules.specs.State.{good}
+use Rattle.rules.specs.Counting.{Call, Command, Delivery, PowerReset, Exchange, next, exchange, statusWord, okStatus, verifies, changes, unblocks, presentsPuk, answers, wrongAnswer, restoration, unblocking, rightVerify, signature}
+
+-- 9000 to a CHANGE of code k.
+abbrev pub changed : ℕ → Exchange → Bool
+changed k = answers okStatus (changes k)
+
+-- 9000 to a 2C, which closes the PIN that P2 names and PUK.
+abbrev pub anyUnblocks : Header → Bool
+anyUnblocks h = eqb (h .ins) 0x2C
+
+abbrev pub unblocked : Exchange → Bool
+unblocked = answers okStatus anyUnblocks
+
+-- 9000 to a 2C with P1 00 for PIN k, which stores a new value.
+abbrev pub storesPin : ℕ → Header → Bool
+storesPin k h = unblocks k h && presentsPuk h
+
+-- A power reset that was done.
+unfoldable pub wasReset : Reply → Bool
+wasReset (Refused r) = false
+wasReset (Response n) = false
+wasReset (HandedOut kind key) = false
+wasReset WasReset = true
+
+-- Only a right VERIFY opens a code.
+unfoldable pub opens : ℕ → Exchange → Bool
+opens k e = rightVerify k e
+
+-- A code is closed by a wrong answer to it, a CHANGE of it, a RESET RETRY of it (PUK: of either PIN),
+-- a signature handed out (PIN2), and a power reset.
+unfoldable pub closes : ℕ → Exchange → Bool
+closes k e =
+    wrongAnswer k e
+    || changed k e
+    || unblocking k e
+    || eqb k PUK && unblocked e
+    || eqb k PIN2 && signature e
+    || wasReset (e .reply)
+
+-- The mark after a call: on if the call opens the code, or if it was on and the call does not close the code.
+abbrev pub verifiedAfter : ℕ → Exchange → Bool → Bool
+verifiedAfter k e verified = opens k e || (not (closes k e) && verified)
+
+-- The tries after a call: one less on a wrong answer, three on a restoration or an unblocking, else as before.
+abbrev pub triesAfter : ℕ → Exchange → ℕ → ℕ
+triesAfter k e tries = cond (wrongAnswer k e) (tries - 1) (cond (restoration k e || unblocking k e) fullTries tries)
+
+-- The data of a command.
+abbrev pub formData : Bytes → Parsed → Bytes
+formData apdu (Form h) = dataOf apdu h
+formData apdu Malformed = []
+
+abbrev pub dataSent : Call → Bytes
+dataSent (Command apdu authentication signature buffer) = formData apdu (parse apdu)
+dataSent (Delivery result buffer) = []
+dataSent PowerReset = []
+
+-- The stored value after a call: what follows the old value in a CHANGE, what follows the PUK in a RESET RETRY with P1 00,
+-- each where it was answered 9000; else as before.
+abbrev pub valueAfter : ℕ → Exchange → Bytes → Bytes → Bytes
+valueAfter k e puk stored =
+    cond (changed k e) (drop (length stored) (dataSent (e .call)))
+    (cond (answers okStatus (storesPin k) e) (drop (length puk) (dataSent (e .call))) stored)
+
+-- The sheet, for code k and one call on a good card.
+pub record Sheet (k : ℕ) (c : Card) (x : Call) : Type 0 where
+  pub verified : codeOf (next c x) k .verified ≡ verifiedAfter k (exchange c x) (codeOf c k .verified)
+  pub tries : codeOf (next c x) k .tries ≡ triesAfter k (exchange c x) (codeOf c k .tries)
+  pub stored : value (codeOf (next c x) k) ≡ valueAfter k (exchange c x) (value (codeOf c PUK)) (value (codeOf c k))
+  -- 63Cx says how many tries are left
+  pub wrong : wrongAnswer k (exchange c x) ≡ true → statusWord (exchange c x) ≡ 0x63C0 + codeOf (next c x) k .tries
+  -- a code with no tries left is neither judged wrong nor right; only such a PIN is unblocked
+  pub judged : wrongAnswer k (exchange c x) ≡ true → 1 ≤ codeOf c k .tries
+  pub restored : restoration k (exchange c x) ≡ true → 1 ≤ codeOf c k .tries
+  pub unblocked : unblocking k (exchange c x) ≡ true → codeOf c k .tries ≡ 0
+  -- a signature is handed out only while PIN2 is verified
+  pub signed : signature (exchange c x) ≡ true → codeOf c PIN2 .verified ≡ true
+
+abbrev pub CodeSheet : Type 0
+CodeSheet = (k : ℕ) → k < 3 → (c : Card) (x : Call) → good c ≡ true → Sheet k c x

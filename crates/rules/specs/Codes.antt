@@ -1,0 +1,64 @@
+-- Document 01, "What the card has": the three codes (reference data), their limits and their retry counters.
+use Prim.Native.Nat.{ℕ, _-_}
+use mathlib.Core.Bool.{Bool, false, cond, _&&_}
+use mathlib.Core.List.{List, []}
+use lib.ListN.{length, take, getD, set}
+use lib.Dec.{eqb, leb}
+use Rattle.octets.specs.Octets.{Bytes, allDigits, filled}
+use Rattle.rules.specs.declared.Code.{Code}
+use Rattle.rules.specs.declared.Card.{Card}
+
+-- The code numbers.
+abbrev pub PUK : ℕ
+PUK = 0
+
+abbrev pub PIN1 : ℕ
+PIN1 = 1
+
+abbrev pub PIN2 : ℕ
+PIN2 = 2
+
+-- The least length: PUK 8, PIN1 4, PIN2 5.
+unfoldable pub least : ℕ → ℕ
+least k = cond (eqb k PUK) 8 (cond (eqb k PIN1) 4 5)
+
+-- The greatest length of each code.
+abbrev pub most : ℕ
+most = 12
+
+-- The tries of a code that was last given right.
+abbrev pub fullTries : ℕ
+fullTries = 3
+
+-- A value that code k may have: of allowed length, and digits.
+unfoldable pub allowed : ℕ → Bytes → Bool
+allowed k d = leb (least k) (length d) && leb (length d) most && allDigits d
+
+-- The value that a code stores.
+abbrev pub value : Code → Bytes
+value v = take (v .len) (v .digits)
+
+-- A code that stores a value, with its tries left and its verified mark.
+abbrev pub storing : Bytes → ℕ → Bool → Code
+storing d tries verified = record { digits = filled most d; len = length d; tries = tries; verified = verified }
+
+-- The same value, with other tries left and another verified mark.
+abbrev pub marked : Code → ℕ → Bool → Code
+marked v tries verified = record { digits = v .digits; len = v .len; tries = tries; verified = verified }
+
+-- What stands where there is no code.
+abbrev pub noCode : Code
+noCode = record { digits = []; len = 0; tries = 0; verified = false }
+
+-- Code k of the card.
+abbrev pub codeOf : Card → ℕ → Code
+codeOf c k = getD (c .codes) k noCode
+
+-- The card with code k replaced.
+abbrev pub withCode : Card → ℕ → Code → Card
+withCode c k v =
+    record { codes = set (c .codes) k v; keys = c .keys; references = c .references; personal = c .personal; session = c .session }
+
+-- Code k's verified mark goes off.
+abbrev pub closed : Card → ℕ → Card
+closed c k = withCode c k (marked (codeOf c k) (codeOf c k .tries) false)

@@ -1,0 +1,171 @@
+-- Document 01, "What demand 3 counts": sequences of calls, and what is counted of the calls' bytes and what they wrote and returned.
+use Prim.Native.Nat.{ℕ, zero, suc, _+_, _-_}
+use mathlib.Core.Bool.{Bool, true, false, _&&_, _||_}
+use mathlib.Core.List.{List, [], _∷_}
+use lib.ListN.{getD, drop}
+use lib.Dec.{eqb, leb}
+use Rattle.octets.specs.Octets.{Bytes, byteAt, word, allBytes}
+use Rattle.rules.specs.declared.Card.{Card}
+use Rattle.rules.specs.declared.Header.{Header}
+use Rattle.rules.specs.declared.Parsed.{Parsed}
+use Rattle.rules.specs.declared.Parsed.the-variants.{Form, Malformed}
+use Rattle.rules.specs.declared.Outcome.{Outcome}
+use Rattle.rules.specs.declared.Reply.{Reply}
+use Rattle.rules.specs.declared.Reply.the-variants.{Refused, Response, HandedOut, WasReset}
+use Rattle.rules.specs.Codes.{PUK, PIN2}
+use Rattle.rules.specs.Keys.{kindNumber}
+use Rattle.rules.specs.Apdu.{parse}
+use Rattle.rules.specs.Judgement.{hasData}
+use Rattle.rules.specs.Edge.{command, delivery, powerReset}
+
+-- A call with all that its caller brings. A command brings its bytes, the authentication certificate, the signature certificate
+-- and the buffer; a delivery its result and the buffer.
+pub data Call : Type 0 where
+  Command : Bytes → Bytes → Bytes → Bytes → Call
+  Delivery : Bytes → Bytes → Call
+  PowerReset : Call
+
+-- What a call gives: the outcome, and the buffer as it leaves it.
+unfoldable pub step : Card → Call → Outcome × Bytes
+step c (Command apdu authentication signature buffer) = command c apdu authentication signature buffer
+step c (Delivery result buffer) = delivery c result buffer
+step c PowerReset = (powerReset c, [])
+
+-- A call, what it returned and what it wrote: all that is counted from.
+pub record Exchange : Type 0 where
+  pub call : Call
+  pub reply : Reply
+  pub buffer : Bytes
+
+-- The card after a call.
+abbrev pub next : Card → Call → Card
+next c x = step c x .0 .card
+
+abbrev pub exchange : Card → Call → Exchange
+exchange c x = record { call = x; reply = step c x .0 .reply; buffer = step c x .1 }
+
+-- A sequence: each call gets the card as the one before left it.
+abbrev pub after : Card → List Call → Card
+after c [] = c
+after c (x ∷ xs) = after (next c x) xs
+
+abbrev pub trace : Card → List Call → List Exchange
+trace c [] = []
+trace c (x ∷ xs) = exchange c x ∷ trace (next c x) xs
+
+-- The status word of a response: its last two bytes. 0 where a call returned no response.
+unfoldable pub replyStatus : Reply → Bytes → ℕ
+replyStatus (Refused r) buffer = 0
+replyStatus (Response n) buffer = word (byteAt buffer (n - 2)) (byteAt buffer (n - 1))
+replyStatus (HandedOut kind key) buffer = 0
+replyStatus WasReset buffer = 0
+
+abbrev pub statusWord : Exchange → ℕ
+statusWord e = replyStatus (e .reply) (e .buffer)
+
+-- The kind of a job that was handed out; 0 where there was none.
+unfoldable pub replyKind : Reply → ℕ
+replyKind (Refused r) = 0
+replyKind (Response n) = 0
+replyKind (HandedOut kind key) = kindNumber kind
+replyKind WasReset = 0
+
+-- A command whose header passes a test.
+unfoldable pub formIs : (Header → Bool) → Parsed → Bool
+formIs test (Form h) = test h
+formIs test Malformed = false
+
+unfoldable pub isCommand : (Header → Bool) → Call → Bool
+isCommand test (Command apdu authentication signature buffer) = formIs test (parse apdu)
+isCommand test (Delivery result buffer) = false
+isCommand test PowerReset = false
+
+-- 63Cx, and 9000.
+unfoldable pub wrongStatus : ℕ → Bool
+wrongStatus sw = leb 0x63C0 sw && leb sw 0x63CF
+
+unfoldable pub okStatus : ℕ → Bool
+okStatus sw = eqb sw 0x9000
+
+-- A VERIFY with data for code k; a CHANGE for code k; a 2C with P1 00; a 2C, P1 00 or 03, for PIN k.
+unfoldable pub verifies : ℕ → Header → Bool
+verifies k h = eqb (h .ins) 0x20 && hasData h && eqb (h .p2) k
+
+unfoldable pub changes : ℕ → Header → Bool
+changes k h = eqb (h .ins) 0x24 && eqb (h .p2) k
+
+unfoldable pub presentsPuk : Header → Bool
+presentsPuk h = eqb (h .ins) 0x2C && eqb (h .p1) 0x00
+
+unfoldable pub unblocks : ℕ → Header → Bool
+unblocks k h = eqb (h .ins) 0x2C && (eqb (h .p1) 0x00 || eqb (h .p1) 0x03) && eqb (h .p2) k && leb 1 k
+
+-- A command that presents a value for code k.
+unfoldable pub presents : ℕ → Header → Bool
+presents k h = verifies k h || changes k h || eqb k PUK && presentsPuk h
+
+-- A command that passes a test, answered by a status word that passes another.
+abbrev pub answers : (ℕ → Bool) → (Header → Bool) → Exchange → Bool
+answers status test e = status (statusWord e) && isCommand test (e .call)
+
+-- A wrong answer, a restoration and an unblocking of code k; a right presentation of code k by VERIFY.
+abbrev pub wrongAnswer : ℕ → Exchange → Bool
+wrongAnswer k = answers wrongStatus (presents k)
+
+abbrev pub restoration : ℕ → Exchange → Bool
+restoration k = answers okStatus (presents k)
+
+abbrev pub unblocking : ℕ → Exchange → Bool
+unblocking k = answers okStatus (unblocks k)
+
+abbrev pub rightVerify : ℕ → Exchange → Bool
+rightVerify k = answers okStatus (verifies k)
+
+-- A signature handed to the key host: a job of kind 2 that a command returned.
+abbrev pub anyHeader : Header → Bool
+anyHeader h = true
+
+abbrev pub signature : Exchange → Bool
+signature e = eqb (replyKind (e .reply)) 2 && isCommand anyHeader (e .call)
+
+-- How many exchanges of a sequence pass a test.
+abbrev pub one : Bool → ℕ
+one true = 1
+one false = 0
+
+abbrev pub number : (Exchange → Bool) → List Exchange → ℕ
+number test [] = 0
+number test (e ∷ es) = one (test e) + number test es
+
+abbrev pub wrongAnswers : ℕ → List Exchange → ℕ
+wrongAnswers k = number (wrongAnswer k)
+
+abbrev pub restorations : ℕ → List Exchange → ℕ
+restorations k = number (restoration k)
+
+abbrev pub unblockings : ℕ → List Exchange → ℕ
+unblockings k = number (unblocking k)
+
+abbrev pub presentations : List Exchange → ℕ
+presentations = number (rightVerify PIN2)
+
+abbrev pub signatures : List Exchange → ℕ
+signatures = number signature
+
+-- Calls that a caller can make: every number in them is a byte.
+abbrev pub ofBytes : Call → Bool
+ofBytes (Command apdu authentication signature buffer) = allBytes apdu && allBytes authentication && allBytes signature && allBytes buffer
+ofBytes (Delivery result buffer) = allBytes result && allBytes buffer
+ofBytes PowerReset = true
+
+abbrev pub allOfBytes : List Call → Bool
+allOfBytes [] = true
+allOfBytes (x ∷ xs) = ofBytes x && allOfBytes xs
+
+-- The tries that an image gives code k: after the count, each code stands as length, digits, tries.
+abbrev pub imageFrom : Bytes → ℕ → Bytes
+imageFrom image zero = drop 1 image
+imageFrom image (suc k) = drop (suc (suc (byteAt (imageFrom image k) 0))) (imageFrom image k)
+
+abbrev pub triesAtLoad : Bytes → ℕ → ℕ
+triesAtLoad image k = byteAt (imageFrom image k) (suc (byteAt (imageFrom image k) 0))
