@@ -1,0 +1,37 @@
+-- Laws of strings of bytes.
+use mathlib.Core.Path.{_≡_, refl, sym, ap, _∙_}
+use mathlib.Core.Bool.{Bool, true, false, _&&_}
+use mathlib.Core.List.{List, [], _∷_, _++_}
+use Prim.Native.Nat.{ℕ, zero, suc, _+_, _-_, _≤_}
+use native.Mathlib.Omega.{arith}
+use lib.Dec.{eqb}
+use lib.ListN.{length, take, drop, replicate, length-append, length-replicate}
+use lib.Seq.{take-append-seam, drop-append-seam}
+use borrow.Author.Tests.{eq-eqb}
+use Rattle.octets.specs.Octets.{Bytes, same, all, allZero, blank, filled}
+use Rattle.octets.proofs.Tests.{and-left, and-right}
+
+pub same-refl : (d : Bytes) → same d d ≡ true
+same-refl [] = refl
+same-refl (x ∷ xs) = rw (eq-eqb x x refl) (same-refl xs)
+
+pub all-append : (t : ℕ → Bool) (a b : Bytes) → all t a ≡ true → all t b ≡ true → all t (a ++ b) ≡ true
+all-append t [] b p q = q
+all-append t (x ∷ a) b p q = rw (and-left (t x) (all t a) p) (all-append t a b (and-right (t x) (all t a) p) q)
+
+pub zeros-replicate : (n : ℕ) → allZero (replicate n 0) ≡ true
+zeros-replicate zero = refl
+zeros-replicate (suc n) = zeros-replicate n
+
+module _ (n : ℕ) (d : Bytes) (h : length d ≤ n) where
+  pub length-filled : length (filled n d) ≡ n
+  unfolding filled blank
+  length-filled = simp (length-append, length-replicate) (omega arith)
+
+  pub take-filled : take (length d) (filled n d) ≡ d
+  unfolding filled
+  take-filled = take-append-seam d (blank (n - length d))
+
+  pub rest-filled : allZero (drop (length d) (filled n d)) ≡ true
+  unfolding filled blank
+  rest-filled = rw (drop-append-seam d (replicate (n - length d) 0)) (zeros-replicate (n - length d))

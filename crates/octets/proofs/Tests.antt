@@ -1,0 +1,59 @@
+-- Laws of tests: a choice by its test, conjunctions taken apart, equal or not.
+use mathlib.Core.Path.{_≡_, refl, sym, _∙_}
+use mathlib.Core.Logic.{_≢_}
+use mathlib.Core.Bool.{Bool, true, false, not, cond, _&&_, _||_, false≢true}
+use mathlib.Core.List.{List, [], _∷_}
+use Prim.Native.Nat.{ℕ, zero, suc, _<_}
+use native.Mathlib.Omega.{arith}
+use lib.Dec.{eqb}
+use lib.ListN.{getD}
+use borrow.Author.Tests.{eqb-true, eqb-false}
+use Rattle.octets.specs.Octets.{every}
+
+-- What holds of both sides of a choice, with what the test says, holds of the choice.
+pub split : {A : Type 0} (P : A → Type 0) (t : Bool) {x y : A} → (t ≡ true → P x) → (t ≡ false → P y) → P (cond t x y)
+split P true h g = h refl
+split P false h g = g refl
+
+-- By the value of a test.
+pub by-test : (P : Type 0) (t : Bool) → (t ≡ true → P) → (t ≡ false → P) → P
+by-test P true h g = h refl
+by-test P false h g = g refl
+
+-- Two numbers are equal or not.
+pub either : (P : Type 0) (k j : ℕ) → (k ≡ j → P) → (k ≢ j → P) → P
+either P k j h g = by-test P (eqb k j) (λ e. h (eqb-true k j e)) (λ e. g (eqb-false k j e))
+
+pub and-left : (s t : Bool) → (s && t) ≡ true → s ≡ true
+and-left true t e = refl
+and-left false t e = e
+
+pub and-right : (s t : Bool) → (s && t) ≡ true → t ≡ true
+and-right true t e = e
+and-right false t e = absurd (false≢true e)
+
+pub or-left : (s t : Bool) → (s || t) ≡ false → s ≡ false
+or-left true t e = e
+or-left false t e = refl
+
+pub or-right : (s t : Bool) → (s || t) ≡ false → t ≡ false
+or-right true t e = absurd (false≢true (sym e))
+or-right false t e = e
+
+-- One of two tests.
+pub or-cases : (P : Type 0) (s t : Bool) → (s || t) ≡ true → (s ≡ true → P) → (t ≡ true → P) → P
+or-cases P true t e h g = h refl
+or-cases P false t e h g = g e
+
+-- The test at a place of a list of tests that are all true.
+pub nth : (ts : List Bool) (i : ℕ) → every ts ≡ true → getD ts i true ≡ true
+nth [] i e = refl
+nth (t ∷ ts) zero e = and-left t (every ts) e
+nth (t ∷ ts) (suc i) e = nth ts i (and-right t (every ts) e)
+
+-- The numbers below three.
+pub below-three : (P : ℕ → Type 0) → P 0 → P 1 → P 2 → (k : ℕ) → k < 3 → P k
+below-three P a b c zero h = a
+below-three P a b c (suc zero) h = b
+below-three P a b c (suc (suc zero)) h = c
+below-three P a b c (suc (suc (suc k))) h = absurd (omega arith)

@@ -1,0 +1,150 @@
+-- What a good state's parts obey, and a good state made of good parts.
+use mathlib.Core.Path.{_≡_, refl, sym, ap, _∙_}
+use mathlib.Core.Logic.{_≢_}
+use mathlib.Core.Bool.{Bool, true, false, not, cond, _&&_, _||_}
+use mathlib.Core.List.{List, [], _∷_, _++_}
+use Prim.Native.Nat.{ℕ, zero, suc, _+_, _-_, _≤_, _<_}
+use native.Mathlib.Omega.{arith}
+use lib.Dec.{eqb, leb, ltb}
+use lib.ListN.{length, getD, set, take, drop, length-take, List·getD-eq-default}
+use lib.Seq.{getD-set-same, getD-set-other}
+use borrow.Author.Tests.{eqb-true, leb-true, ltb-true, ltb-false, eq-eqb, le-leb}
+use Rattle.octets.specs.Octets.{Bytes, every, allDigits, allZero, filled}
+use Rattle.octets.proofs.Tests.{split, by-test, either, and-left, and-right, nth, below-three}
+use Rattle.octets.proofs.Strings.{length-filled, take-filled, rest-filled}
+use Rattle.rules.specs.declared.Card.{Card}
+use Rattle.rules.specs.declared.Code.{Code}
+use Rattle.rules.specs.Codes.{PUK, PIN1, PIN2, least, most, fullTries, allowed, value, storing, marked, noCode, codeOf, withCode}
+use Rattle.rules.specs.State.{goodRoom, goodCode, goodReferences, goodRecords, goodSession, good}
+
+-- A string in room of a stated size.
+module _ (size : ℕ) (bytes : Bytes) (len : ℕ) (g : goodRoom size bytes len ≡ true) where
+  abbrev tests : List Bool
+  tests = eqb (length bytes) size ∷ leb len size ∷ allZero (drop len bytes) ∷ []
+
+  pub room-size : length bytes ≡ size
+  unfolding goodRoom
+  room-size = eqb-true (length bytes) size (nth tests 0 g)
+
+  pub room-len : len ≤ size
+  unfolding goodRoom
+  room-len = leb-true len size (nth tests 1 g)
+
+  pub room-taken : length (take len bytes) ≡ len
+  room-taken = omega (arith, length-take len bytes, room-size, room-len)
+
+pub filled-room : (size : ℕ) (d : Bytes) → length d ≤ size → goodRoom size (filled size d) (length d) ≡ true
+unfolding goodRoom
+filled-room size d h = simp (eq-eqb (length (filled size d)) size (length-filled size d h), le-leb (length d) size h, rest-filled size d h)
+
+-- A good code.
+module _ (k : ℕ) (v : Code) (g : goodCode k v ≡ true) where
+  abbrev code-tests : List Bool
+  code-tests =
+      goodRoom most (v .digits) (v .len)
+      ∷ leb (least k) (v .len)
+      ∷ allDigits (value v)
+      ∷ leb (v .tries) fullTries
+      ∷ (not (v .verified) || eqb (v .tries) fullTries)
+      ∷ []
+
+  pub code-room : goodRoom most (v .digits) (v .len) ≡ true
+  unfolding goodCode
+  code-room = nth code-tests 0 g
+
+  pub code-least : least k ≤ v .len
+  unfolding goodCode
+  code-least = leb-true (least k) (v .len) (nth code-tests 1 g)
+
+  pub code-most : v .len ≤ 12
+  code-most = room-len most (v .digits) (v .len) code-room
+
+  pub code-digits : allDigits (value v) ≡ true
+  unfolding goodCode
+  code-digits = nth code-tests 2 g
+
+  pub code-tries : v .tries ≤ 3
+  unfolding goodCode
+  code-tries = leb-true (v .tries) fullTries (nth code-tests 3 g)
+
+  pub code-length : length (value v) ≡ v .len
+  code-length = room-taken most (v .digits) (v .len) code-room
+
+  -- a verified code has three tries
+  pub code-verified : v .verified ≡ true → v .tries ≡ 3
+  unfolding goodCode
+  code-verified e = eqb-true (v .tries) fullTries (rw e at (nth code-tests 4 g))
+
+  -- the same value with other tries and another mark
+  pub marked-good : (t : ℕ) (m : Bool) → t ≤ 3 → (not m || eqb t fullTries) ≡ true → goodCode k (marked v t m) ≡ true
+  unfolding goodCode
+  marked-good t m h e = simp (code-room, le-leb (least k) (v .len) code-least, code-digits, le-leb t 3 h, e)
+
+-- the least lengths
+pub least-some : (k : ℕ) → 4 ≤ least k
+unfolding least
+least-some k = split (λ n. 4 ≤ n) (eqb k 0) (λ e. omega arith) (λ e. split (λ n. 4 ≤ n) (eqb k 1) (λ e. omega arith) (λ e. omega arith))
+
+-- A stored value that is allowed makes a good code.
+pub stored-good : (k : ℕ) (d : Bytes) → allowed k d ≡ true → goodCode k (storing d 3 false) ≡ true
+unfolding goodCode allowed
+stored-good k d a =
+    let first : (leb (least k) (length d) && leb (length d) most) ≡ true = and-left _ (allDigits d) a in
+    let most-12 : length d ≤ 12 = leb-true _ _ (and-right (leb (least k) (length d)) _ first) in
+    let digits : allDigits d ≡ true = and-right (leb (least k) (length d) && leb (length d) most) (allDigits d) a in
+    simp (filled-room 12 d most-12, take-filled 12 d most-12, and-left (leb (least k) (length d)) (leb (length d) most) first, digits)
+
+-- A good card's parts.
+module _ (c : Card) (g : good c ≡ true) where
+  abbrev card-tests : List Bool
+  card-tests =
+      goodCode PUK (codeOf c PUK)
+      ∷ goodCode PIN1 (codeOf c PIN1)
+      ∷ goodCode PIN2 (codeOf c PIN2)
+      ∷ goodReferences (c .keys) (c .references)
+      ∷ goodRecords 16 (c .personal)
+      ∷ goodSession (c .keys) (c .session)
+      ∷ []
+
+  pub good-code : (k : ℕ) → k < 3 → goodCode k (codeOf c k) ≡ true
+  unfolding good
+  good-code = below-three (λ k. goodCode k (codeOf c k) ≡ true) (nth card-tests 0 g) (nth card-tests 1 g) (nth card-tests 2 g)
+
+  pub good-references : goodReferences (c .keys) (c .references) ≡ true
+  unfolding good
+  good-references = nth card-tests 3 g
+
+  pub good-records : goodRecords 16 (c .personal) ≡ true
+  unfolding good
+  good-records = nth card-tests 4 g
+
+  pub good-session : goodSession (c .keys) (c .session) ≡ true
+  unfolding good
+  good-session = nth card-tests 5 g
+
+-- A good card made of good parts.
+pub good-card : (c : Card) → ((k : ℕ) → k < 3 → goodCode k (codeOf c k) ≡ true) → goodReferences (c .keys) (c .references) ≡ true
+    → goodRecords 16 (c .personal) ≡ true → goodSession (c .keys) (c .session) ≡ true → good c ≡ true
+unfolding good
+good-card c codes references records session = simp (codes 0 (omega arith), codes 1 (omega arith), codes 2 (omega arith), references, records, session)
+
+-- Where a good code stands, there is a place.
+pub code-in : (l : List Code) (k : ℕ) → goodCode k (getD l k noCode) ≡ true → k < length l
+code-in l k g = by-test _ (ltb k (length l))
+    (λ e. ltb-true k (length l) e)
+    (λ e. let h : goodCode k noCode ≡ true = rw (List·getD-eq-default l noCode (ltb-false k (length l) e)) at g in
+    absurd (omega (arith, least-some k, code-least k noCode h)))
+
+-- Codes read back after one was replaced.
+module _ (l : List Code) (j : ℕ) (v : Code) (h : j < length l) where
+  pub code-same : getD (set l j v) j noCode ≡ v
+  code-same = getD-set-same l j v noCode h
+
+  pub code-other : (k : ℕ) → k ≢ j → getD (set l j v) k noCode ≡ getD l k noCode
+  code-other k n = getD-set-other l j k v noCode n
+
+  -- what holds of the new code, and of every other one, holds of all
+  pub each-code : (P : ℕ → Code → Type 0) → P j v → (k : ℕ) → P k (getD l k noCode) → P k (getD (set l j v) k noCode)
+  each-code P p k q = either _ k j
+      (λ e. rw e (rw code-same p))
+      (λ n. rw (code-other k n) q)
