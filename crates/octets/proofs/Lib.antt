@@ -1,2 +1,4 @@
 pub mod Tests
 pub mod Strings
+pub mod Words
+pub mod Lists

@@ -85,12 +85,17 @@ pub least-some : (k : ℕ) → 4 ≤ least k
 unfolding least
 least-some k = split (λ n. 4 ≤ n) (eqb k 0) (λ e. omega arith) (λ e. split (λ n. 4 ≤ n) (eqb k 1) (λ e. omega arith) (λ e. omega arith))
 
+-- An allowed value has at most twelve bytes.
+pub allowed-most : (k : ℕ) (d : Bytes) → allowed k d ≡ true → length d ≤ 12
+unfolding allowed
+allowed-most k d a = leb-true (length d) most (and-right (leb (least k) (length d)) _ (and-left _ (allDigits d) a))
+
 -- A stored value that is allowed makes a good code.
 pub stored-good : (k : ℕ) (d : Bytes) → allowed k d ≡ true → goodCode k (storing d 3 false) ≡ true
 unfolding goodCode allowed
 stored-good k d a =
     let first : (leb (least k) (length d) && leb (length d) most) ≡ true = and-left _ (allDigits d) a in
-    let most-12 : length d ≤ 12 = leb-true _ _ (and-right (leb (least k) (length d)) _ first) in
+    let most-12 : length d ≤ 12 = allowed-most k d a in
     let digits : allDigits d ≡ true = and-right (leb (least k) (length d) && leb (length d) most) (allDigits d) a in
     simp (filled-room 12 d most-12, take-filled 12 d most-12, and-left (leb (least k) (length d)) (leb (length d) most) first, digits)
 
@@ -134,6 +139,10 @@ code-in l k g = by-test _ (ltb k (length l))
     (λ e. ltb-true k (length l) e)
     (λ e. let h : goodCode k noCode ≡ true = rw (List·getD-eq-default l noCode (ltb-false k (length l) e)) at g in
     absurd (omega (arith, least-some k, code-least k noCode h)))
+
+-- Each code of a good card has a place.
+pub code-place : (c : Card) → good c ≡ true → (k : ℕ) → k < 3 → k < length (c .codes)
+code-place c g k h = code-in (c .codes) k (good-code c g k h)
 
 -- Codes read back after one was replaced.
 module _ (l : List Code) (j : ℕ) (v : Code) (h : j < length l) where

@@ -8,6 +8,7 @@ use lib.ListN.{length, drop}
 use lib.Dec.{eqb, leb}
 use Rattle.octets.specs.Octets.{Bytes}
 use Rattle.rules.specs.declared.Card.{Card}
+use Rattle.rules.specs.declared.Outcome.{Outcome}
 use Rattle.rules.specs.declared.Header.{Header}
 use Rattle.rules.specs.declared.Parsed.{Parsed}
 use Rattle.rules.specs.declared.Parsed.the-variants.{Form, Malformed}
@@ -15,8 +16,7 @@ use Rattle.rules.specs.declared.Reply.{Reply}
 use Rattle.rules.specs.declared.Reply.the-variants.{Refused, Response, HandedOut, WasReset}
 use Rattle.rules.specs.Codes.{PUK, PIN2, fullTries, value, codeOf}
 use Rattle.rules.specs.Apdu.{parse, dataOf}
-use Rattle.rules.specs.State.{good}
-use Rattle.rules.specs.Counting.{Call, Command, Delivery, PowerReset, Exchange, next, exchange, statusWord, okStatus, verifies, changes, unblocks, presentsPuk, answers, wrongAnswer, restoration, unblocking, rightVerify, signature}
+use Rattle.rules.specs.Counting.{Call, Command, Delivery, PowerReset, Exchange, step, exchangeOf, statusWord, okStatus, verifies, changes, unblocks, presentsPuk, answers, wrongAnswer, restoration, unblocking, rightVerify, signature}
 
 -- 9000 to a CHANGE of code k.
 abbrev pub changed : ℕ → Exchange → Bool
@@ -80,19 +80,20 @@ valueAfter k e puk stored =
     cond (changed k e) (drop (length stored) (dataSent (e .call)))
     (cond (answers okStatus (storesPin k) e) (drop (length puk) (dataSent (e .call))) stored)
 
--- The sheet, for code k and one call on a good card.
-pub record Sheet (k : ℕ) (c : Card) (x : Call) : Type 0 where
-  pub verified : codeOf (next c x) k .verified ≡ verifiedAfter k (exchange c x) (codeOf c k .verified)
-  pub tries : codeOf (next c x) k .tries ≡ triesAfter k (exchange c x) (codeOf c k .tries)
-  pub stored : value (codeOf (next c x) k) ≡ valueAfter k (exchange c x) (value (codeOf c PUK)) (value (codeOf c k))
+-- The sheet: code k before and after a call x on the card c that gave o.
+pub record Sheet (k : ℕ) (c : Card) (x : Call) (o : Outcome × Bytes) : Type 0 where
+  pub verified : codeOf (o .0 .card) k .verified ≡ verifiedAfter k (exchangeOf x o) (codeOf c k .verified)
+  pub tries : codeOf (o .0 .card) k .tries ≡ triesAfter k (exchangeOf x o) (codeOf c k .tries)
+  pub stored : value (codeOf (o .0 .card) k) ≡ valueAfter k (exchangeOf x o) (value (codeOf c PUK)) (value (codeOf c k))
   -- 63Cx says how many tries are left
-  pub wrong : wrongAnswer k (exchange c x) ≡ true → statusWord (exchange c x) ≡ 0x63C0 + codeOf (next c x) k .tries
-  -- a code with no tries left is neither judged wrong nor right; only such a PIN is unblocked
-  pub judged : wrongAnswer k (exchange c x) ≡ true → 1 ≤ codeOf c k .tries
-  pub restored : restoration k (exchange c x) ≡ true → 1 ≤ codeOf c k .tries
-  pub unblocked : unblocking k (exchange c x) ≡ true → codeOf c k .tries ≡ 0
+  pub wrong : wrongAnswer k (exchangeOf x o) ≡ true → statusWord (exchangeOf x o) ≡ 0x63C0 + codeOf (o .0 .card) k .tries
+  -- a code with no tries left is judged neither wrong nor right; only such a PIN is unblocked
+  pub judged : wrongAnswer k (exchangeOf x o) ≡ true → 1 ≤ codeOf c k .tries
+  pub restored : restoration k (exchangeOf x o) ≡ true → 1 ≤ codeOf c k .tries
+  pub unblocked : unblocking k (exchangeOf x o) ≡ true → codeOf c k .tries ≡ 0
   -- a signature is handed out only while PIN2 is verified
-  pub signed : signature (exchange c x) ≡ true → codeOf c PIN2 .verified ≡ true
+  pub signed : signature (exchangeOf x o) ≡ true → codeOf c PIN2 .verified ≡ true
 
+-- For each code, every card, good or not, and every call.
 abbrev pub CodeSheet : Type 0
-CodeSheet = (k : ℕ) → k < 3 → (c : Card) (x : Call) → good c ≡ true → Sheet k c x
+CodeSheet = (k : ℕ) → k < 3 → (c : Card) (x : Call) → Sheet k c x (step c x)

@@ -41,8 +41,11 @@ pub record Exchange : Type 0 where
 abbrev pub next : Card → Call → Card
 next c x = step c x .0 .card
 
+abbrev pub exchangeOf : Call → Outcome × Bytes → Exchange
+exchangeOf x o = record { call = x; reply = o .0 .reply; buffer = o .1 }
+
 abbrev pub exchange : Card → Call → Exchange
-exchange c x = record { call = x; reply = step c x .0 .reply; buffer = step c x .1 }
+exchange c x = exchangeOf x (step c x)
 
 -- A sequence: each call gets the card as the one before left it.
 abbrev pub after : Card → List Call → Card

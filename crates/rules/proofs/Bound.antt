@@ -1,0 +1,82 @@
+-- Demand 3's two bounds follow from the code sheet: what one call adds, and the sum over a sequence.
+use mathlib.Core.Path.{_≡_, refl, sym, ap, _∙_}
+use mathlib.Core.Bool.{Bool, true, false, not, cond, _&&_, _||_, or-true, false≢true}
+use mathlib.Core.List.{List, [], _∷_}
+use Prim.Native.Nat.{ℕ, _+_, _-_, _*_, _≤_, _<_}
+use native.Mathlib.Omega.{arith}
+use lib.Dec.{eqb}
+use Rattle.octets.specs.Octets.{Bytes}
+use Rattle.octets.proofs.Tests.{and-left}
+use Rattle.rules.specs.declared.Card.{Card}
+use Rattle.rules.specs.declared.Reply.{Reply}
+use Rattle.rules.specs.declared.Reply.the-variants.{Refused, Response, HandedOut, WasReset}
+use Rattle.rules.specs.Codes.{PIN2, codeOf}
+use Rattle.rules.specs.Counting.{Call, Exchange, step, next, exchange, after, trace, statusWord, replyStatus, replyKind, isCommand, okStatus, verifies, wrongAnswer, restoration, unblocking, rightVerify, signature, anyHeader, one, wrongAnswers, restorations, unblockings, signatures, presentations}
+use Rattle.rules.specs.CodeSheet.{Sheet, CodeSheet, opens, closes}
+use Rattle.rules.proofs.Sheet.{code-sheet}
+
+-- Tries before and after a call that may be a wrong answer, a restoration, an unblocking.
+tries-step : (w r u : Bool) (before after : ℕ) → after ≡ cond w (before - 1) (cond (r || u) 3 before) → (w ≡ true → 1 ≤ before) → (r ≡ true → 1 ≤ before)
+    → one w + after ≤ before + 2 * one r + 3 * one u
+tries-step true r u before after e w-some r-some = omega (arith, w-some refl)
+tries-step false true u before after e w-some r-some = omega (arith, r-some refl)
+tries-step false false true before after e w-some r-some = omega arith
+tries-step false false false before after e w-some r-some = omega arith
+
+-- A mark before and after a call that may open, close, or hand out a signature.
+mark-step : (signs opened shut before after : Bool) → after ≡ (opened || (not shut && before))
+    → (signs ≡ true → before ≡ true) → (signs ≡ true → shut ≡ true) → (signs ≡ true → opened ≡ false)
+    → one signs + one after ≤ one before + one opened
+mark-step true opened shut before after e on closing unopened =
+    omega (arith, ap one (e ∙ ap (λ (o : Bool). o || (not shut && before)) (unopened refl) ∙ ap (λ (s : Bool). not s && before) (closing refl)), ap one (on refl))
+mark-step false true shut before true e on closing unopened = omega arith
+mark-step false true shut before false e on closing unopened = omega arith
+mark-step false false true before after e on closing unopened = omega (arith, ap one e)
+mark-step false false false before after e on closing unopened = omega (arith, ap one e)
+
+-- A job is no response.
+job-status : (r : Reply) (w : Bytes) → eqb (replyKind r) 2 ≡ true → okStatus (replyStatus r w) ≡ false
+unfolding replyKind replyStatus okStatus
+job-status (Refused r) w e = absurd (false≢true e)
+job-status (Response n) w e = absurd (false≢true e)
+job-status (HandedOut kind key) w e = refl
+job-status WasReset w e = absurd (false≢true e)
+
+module _ (e : Exchange) (s : signature e ≡ true) where
+  signature-opens : opens PIN2 e ≡ false
+  unfolding opens
+  signature-opens = rw (job-status (e .reply) (e .buffer) (and-left _ (isCommand anyHeader (e .call)) s))
+
+  signature-closes : closes PIN2 e ≡ true
+  unfolding closes
+  signature-closes = simp (s, or-true)
+
+module _ (k : ℕ) (h3 : k < 3) where
+  tries-moved : (c : Card) (x : Call) → one (wrongAnswer k (exchange c x)) + codeOf (next c x) k .tries
+      ≤ codeOf c k .tries + 2 * one (restoration k (exchange c x)) + 3 * one (unblocking k (exchange c x))
+  tries-moved c x = let s = code-sheet k h3 c x in tries-step _ _ _ _ _ (s .tries) (s .judged) (s .restored)
+
+  tries-run : (c : Card) (xs : List Call) → wrongAnswers k (trace c xs) + codeOf (after c xs) k .tries
+      ≤ codeOf c k .tries + 2 * restorations k (trace c xs) + 3 * unblockings k (trace c xs)
+  tries-run c [] = omega arith
+  tries-run c (x ∷ xs) = omega (arith, tries-run (next c x) xs, tries-moved c x)
+
+  -- wrong answers are at most the tries before + 2 times restorations + 3 times unblockings
+  pub wrong-bound : (c : Card) (xs : List Call) → wrongAnswers k (trace c xs) ≤ codeOf c k .tries + 2 * restorations k (trace c xs) + 3 * unblockings k (trace c xs)
+  wrong-bound c xs = omega (arith, tries-run c xs)
+
+mark-moved : (c : Card) (x : Call) → one (signature (exchange c x)) + one (codeOf (next c x) PIN2 .verified)
+    ≤ one (codeOf c PIN2 .verified) + one (rightVerify PIN2 (exchange c x))
+unfolding opens
+mark-moved c x =
+    let s = code-sheet PIN2 (omega arith) c x in
+    let e : Exchange = exchange c x in
+    mark-step (signature e) (opens PIN2 e) (closes PIN2 e) (codeOf c PIN2 .verified) (codeOf (next c x) PIN2 .verified) (s .verified) (s .signed) (signature-closes e) (signature-opens e)
+
+mark-run : (c : Card) (xs : List Call) → signatures (trace c xs) + one (codeOf (after c xs) PIN2 .verified) ≤ one (codeOf c PIN2 .verified) + presentations (trace c xs)
+mark-run c [] = omega arith
+mark-run c (x ∷ xs) = omega (arith, mark-run (next c x) xs, mark-moved c x)
+
+-- signatures are at most right presentations of PIN2, from a card on which PIN2 is not verified
+pub signature-bound : (c : Card) (xs : List Call) → codeOf c PIN2 .verified ≡ false → signatures (trace c xs) ≤ presentations (trace c xs)
+signature-bound c xs m = omega (arith, mark-run c xs, ap one m)

@@ -1,0 +1,383 @@
+-- The bound of demand 3 is met: calls with r restorations, u unblockings and 3 + 2r + 3u wrong answers of one code.
+use mathlib.Core.Path.{_≡_, refl, ap, _∙_}
+use mathlib.Core.Logic.{_≢_}
+use mathlib.Core.Bool.{Bool, true, false, _&&_, or-false, and-false}
+use mathlib.Core.List.{List, [], _∷_, _++_}
+use Prim.Native.Nat.{ℕ, zero, suc, _+_, _-_, _*_, _≤_, _<_}
+use native.Mathlib.Omega.{arith}
+use lib.Dec.{eqb}
+use lib.ListN.{length, replicate, length-set}
+use lib.Seq.{take-length}
+use borrow.Author.Tests.{eq-eqb, ne-eqb, lt-ltb, le-leb}
+use Rattle.octets.specs.Octets.{Bytes, allDigits, allBytes}
+use Rattle.octets.proofs.Tests.{either, and-left, and-right}
+use Rattle.octets.proofs.Strings.{same-refl}
+use Rattle.octets.proofs.Words.{digits-bytes, unlike-length}
+use Rattle.rules.specs.declared.Card.{Card}
+use Rattle.rules.specs.declared.Code.{Code}
+use Rattle.rules.specs.declared.Header.{Header}
+use Rattle.rules.specs.declared.Parsed.the-variants.{Form}
+use Rattle.rules.specs.Codes.{PUK, fullTries, value, marked, codeOf, withCode, closed}
+use Rattle.rules.specs.State.{goodCode, good}
+use Rattle.rules.specs.Apdu.{parse, dataOf}
+use Rattle.rules.specs.Answers.{response, status}
+use Rattle.rules.specs.CodeCommands.{judged, verify, unblockByVerifiedPuk, resetRetry}
+use Rattle.rules.specs.Judgement.{goodParameters, goodLengths, dropPending, ownRules, judgeHeader, judgeForm, judge}
+use Rattle.rules.specs.Edge.{written, shortBuffer, command}
+use Rattle.rules.specs.Counting.{Call, Command, Exchange, step, next, exchange, after, trace, replyStatus, formIs, isCommand, wrongStatus, okStatus, verifies, changes, presentsPuk, unblocks, presents, answers, wrongAnswer, restoration, unblocking, one, number, ofBytes, allOfBytes}
+use Rattle.rules.specs.Demands.{Reached}
+use Rattle.rules.proofs.StatusWords.{status-read, wrong-status, wrong-not-ok}
+use Rattle.rules.proofs.Parts.{code-most, code-least, code-digits, code-tries, code-length, least-some, good-code, code-place, code-same, code-other}
+
+-- A sequence made of two.
+after-append : (c : Card) (xs ys : List Call) → after c (xs ++ ys) ≡ after (after c xs) ys
+after-append c [] ys = refl
+after-append c (x ∷ xs) ys = after-append (next c x) xs ys
+
+number-append : (test : Exchange → Bool) (c : Card) (xs ys : List Call)
+    → number test (trace c (xs ++ ys)) ≡ number test (trace c xs) + number test (trace (after c xs) ys)
+number-append test c [] ys = omega arith
+number-append test c (x ∷ xs) ys = omega (arith, number-append test (next c x) xs ys)
+
+bytes-append : (xs ys : List Call) → allOfBytes xs ≡ true → allOfBytes ys ≡ true → allOfBytes (xs ++ ys) ≡ true
+bytes-append [] ys p q = q
+bytes-append (x ∷ xs) ys p q = rw (and-left (ofBytes x) (allOfBytes xs) p) (bytes-append xs ys (and-right (ofBytes x) (allOfBytes xs) p) q)
+
+-- Calls with so many restorations, unblockings and wrong answers of code k, which lead from c to a card of which P holds.
+record Run (k : ℕ) (c : Card) (P : Card → Type 0) (r u w : ℕ) : Type 0 where
+  reached : Reached c k r u w
+  leads : P (after c (reached .calls))
+
+-- No call.
+stay : {k : ℕ} {c : Card} {P : Card → Type 0} → P c → Run k c P 0 0 0
+stay p = record { reached = record { calls = []; ofBytes = refl; restored = refl; unblocked = refl; wrong = refl }; leads = p }
+
+-- A run, and then another.
+then : {k : ℕ} {c : Card} {P Q : Card → Type 0} {r u w r′ u′ w′ : ℕ}
+    → Run k c P r u w → ((d : Card) → P d → Run k d Q r′ u′ w′) → Run k c Q (r + r′) (u + u′) (w + w′)
+then {k} {c} p f =
+    let first = p .reached in
+    let q = f (after c (first .calls)) (p .leads) in
+    let second = q .reached in
+    record {
+      reached =
+          record {
+            calls = first .calls ++ second .calls;
+            ofBytes = bytes-append (first .calls) (second .calls) (first .ofBytes) (second .ofBytes);
+            restored = omega (arith, number-append (restoration k) c (first .calls) (second .calls), first .restored, second .restored);
+            unblocked = omega (arith, number-append (unblocking k) c (first .calls) (second .calls), first .unblocked, second .unblocked);
+            wrong = omega (arith, number-append (wrongAnswer k) c (first .calls) (second .calls), first .wrong, second .wrong);
+          };
+      leads = rw (after-append c (first .calls) (second .calls)) (q .leads);
+    }
+
+-- The same run, its counts written in another way.
+recount : {k : ℕ} {c : Card} {P : Card → Type 0} {r u w r′ u′ w′ : ℕ} → r ≡ r′ → u ≡ u′ → w ≡ w′ → Run k c P r u w → Run k c P r′ u′ w′
+recount restored unblocked wrong p =
+    let x = p .reached in
+    record {
+      reached = record { calls = x .calls; ofBytes = x .ofBytes; restored = x .restored ∙ restored; unblocked = x .unblocked ∙ unblocked; wrong = x .wrong ∙ wrong };
+      leads = p .leads;
+    }
+
+-- A command with certificates and a buffer that the edge takes.
+buffer : Bytes
+buffer = replicate 258 0
+
+abbrev certificate : Bytes
+certificate = 0x30 ∷ []
+
+abbrev sent : Bytes → Call
+sent apdu = Command apdu certificate certificate buffer
+
+sent-bytes : (apdu : Bytes) → allBytes apdu ≡ true → ofBytes (sent apdu) ≡ true
+unfolding buffer
+sent-bytes apdu e = rw e
+
+buffer-taken : shortBuffer buffer ≡ false
+unfolding buffer
+buffer-taken = refl
+
+-- A VERIFY of code j with the data d.
+abbrev verifyApdu : ℕ → Bytes → Bytes
+verifyApdu j d = 0x00 ∷ 0x20 ∷ 0x00 ∷ j ∷ length d ∷ d
+
+abbrev verifyHeader : ℕ → Bytes → Header
+verifyHeader j d = record { cla = 0x00; ins = 0x20; p1 = 0x00; p2 = j; lc = length d; le = 0 }
+
+-- The card after it, where the data are the right value.
+abbrev afterVerify : Card → ℕ → Card
+afterVerify c j = withCode (dropPending c) j (marked (codeOf c j) fullTries true)
+
+module _ (j : ℕ) (d : Bytes) (some : 1 ≤ length d) where
+  verify-form : parse (verifyApdu j d) ≡ Form (verifyHeader j d)
+  unfolding parse
+  verify-form =
+      simp (
+        ne-eqb (length (verifyApdu j d)) 4 (omega arith),
+        ne-eqb (length (verifyApdu j d)) 5 (omega arith),
+        le-leb 1 (length d) some,
+        eq-eqb (length (verifyApdu j d)) (5 + length d) (omega arith),
+      )
+
+  verify-judged : (c : Card) → j < 3 → judgeHeader c (verifyHeader j d) (dataOf (verifyApdu j d) (verifyHeader j d)) certificate certificate
+      ≡ judged (dropPending c) j d (status (afterVerify c j) 0x9000)
+  unfolding judgeHeader goodParameters goodLengths ownRules verify dataOf
+  verify-judged c h = simp (le-leb j 2 (omega arith), le-leb 1 (length d) some, take-length d)
+
+  verify-bytes : j < 3 → length d ≤ 12 → allBytes d ≡ true → allBytes (verifyApdu j d) ≡ true
+  verify-bytes h short e = simp (lt-ltb j 256 (omega arith), lt-ltb (length d) 256 (omega arith), e)
+
+  -- it presents code j and no other, and unblocks nothing
+  verify-presents : (k : ℕ) → presents k (verifyHeader j d) ≡ eqb j k
+  unfolding presents verifies changes presentsPuk
+  verify-presents k = simp (le-leb 1 (length d) some, and-false, or-false)
+
+  verify-no-unblocking : (k : ℕ) → unblocks k (verifyHeader j d) ≡ false
+  unfolding unblocks
+  verify-no-unblocking k = refl
+
+-- The command 00 2C 03 k, which unblocks PIN k once PUK is verified.
+abbrev unblockApdu : ℕ → Bytes
+unblockApdu k = 0x00 ∷ 0x2C ∷ 0x03 ∷ k ∷ []
+
+abbrev unblockHeader : ℕ → Header
+unblockHeader k = record { cla = 0x00; ins = 0x2C; p1 = 0x03; p2 = k; lc = 0; le = 0 }
+
+unblock-form : (k : ℕ) → parse (unblockApdu k) ≡ Form (unblockHeader k)
+unfolding parse
+unblock-form k = refl
+
+-- The card after it.
+abbrev afterUnblock : Card → ℕ → Card
+afterUnblock c k = closed (withCode c k (marked (codeOf c k) fullTries false)) PUK
+
+unblock-judged : (k : ℕ) (c : Card) → 1 ≤ k → k < 3 → codeOf c k .tries ≡ 0 → codeOf c PUK .verified ≡ true
+    → judgeHeader c (unblockHeader k) (dataOf (unblockApdu k) (unblockHeader k)) certificate certificate ≡ status (afterUnblock (dropPending c) k) 0x9000
+unfolding judgeHeader goodParameters goodLengths ownRules resetRetry unblockByVerifiedPuk
+unblock-judged k c low high none verified = simp (le-leb 1 k low, le-leb k 2 (omega arith), eq-eqb (codeOf c k .tries) 0 none, verified)
+
+unblock-no-presentation : (k : ℕ) → presents k (unblockHeader k) ≡ false
+unfolding presents verifies changes presentsPuk
+unblock-no-presentation k = and-false (eqb k PUK)
+
+unblock-unblocks : (k : ℕ) → 1 ≤ k → unblocks k (unblockHeader k) ≡ true
+unfolding unblocks
+unblock-unblocks k low = simp (eq-eqb k k refl, le-leb 1 k low)
+
+-- The length of a good code's value.
+module _ (k : ℕ) (v : Code) (g : goodCode k v ≡ true) where
+  value-least : 4 ≤ length (value v)
+  value-least = omega (arith, code-length k v g, code-least k v g, least-some k)
+
+  value-most : length (value v) ≤ 12
+  value-most = omega (arith, code-length k v g, code-most k v g)
+
+-- The tries left after one code was replaced.
+module _ (c : Card) (j : ℕ) (v : Code) (place : j < length (c .codes)) where
+  tries-same : codeOf (withCode c j v) j .tries ≡ v .tries
+  tries-same = ap (λ (v : Code). v .tries) (code-same (c .codes) j v place)
+
+  tries-other : (k : ℕ) → k ≢ j → codeOf (withCode c j v) k .tries ≡ codeOf c k .tries
+  tries-other k n = ap (λ (v : Code). v .tries) (code-other (c .codes) j v place k n)
+
+-- A good card without a job, on which code k and PUK have three tries.
+pub record Ready (k : ℕ) (c : Card) : Type 0 where
+  pub isGood : good c ≡ true
+  pub noJob : c .session .job .kind ≡ 0
+  pub left : codeOf c k .tries ≡ 3
+  pub puk : codeOf c PUK .tries ≡ 3
+
+-- A good card without a job, on which code k has n tries left, and PUK three where it is another code.
+record TriesLeft (k n : ℕ) (c : Card) : Type 0 where
+  isGood : good c ≡ true
+  noJob : c .session .job .kind ≡ 0
+  left : codeOf c k .tries ≡ n
+  puk : PUK ≢ k → codeOf c PUK .tries ≡ 3
+
+-- Such a card, of which code k was replaced by one of m tries.
+replaced : (k n m : ℕ) (c : Card) (v : Code) → TriesLeft k n c → k < length (c .codes) → v .tries ≡ m
+    → good (withCode (dropPending c) k v) ≡ true → TriesLeft k m (withCode (dropPending c) k v)
+replaced k n m c v before place e g =
+    record {
+      isGood = g;
+      noJob = before .noJob;
+      left = tries-same c k v place ∙ e;
+      puk = λ other. tries-other c k v place PUK other ∙ before .puk other;
+    }
+
+-- A card on which code k has no tries left, and PUK is verified.
+record PukVerified (k : ℕ) (c : Card) : Type 0 where
+  blocked : TriesLeft k 0 c
+  shown : codeOf c PUK .verified ≡ true
+
+-- Let calls of bytes keep a card good.
+module _ (kept : (c : Card) (x : Call) → ofBytes x ≡ true → good c ≡ true → good (next c x) ≡ true) where
+  -- A command with header h, which a good card without a job answers by a status word, and so goes over to the card d.
+  module _ (c d : Card) (apdu : Bytes) (h : Header) (sw : ℕ) (isGood : good c ≡ true) (noJob : c .session .job .kind ≡ 0)
+      (form : parse apdu ≡ Form h) (judgement : judgeHeader c h (dataOf apdu h) certificate certificate ≡ status d sw) where
+    gives : step c (sent apdu) ≡ written buffer d (response [] sw)
+    unfolding step command judge judgeForm
+    gives = simp (isGood, buffer-taken, eq-eqb (c .session .job .kind) 0 noJob, form, judgement)
+
+    leads-to : next c (sent apdu) ≡ d
+    unfolding written
+    leads-to = rw (gives, next)
+
+    reads : replyStatus (step c (sent apdu) .0 .reply) (step c (sent apdu) .1) ≡ sw
+    unfolding written
+    reads = rw gives (status-read buffer sw)
+
+    counts : (statusTest : ℕ → Bool) (test : Header → Bool) → answers statusTest test (exchange c (sent apdu)) ≡ (statusTest sw && test h)
+    unfolding isCommand formIs
+    counts statusTest test = rw (reads, form)
+
+    one-call : (k : ℕ) {P : Card → Type 0} → allBytes apdu ≡ true → (good d ≡ true → P d)
+        → Run k c P (one (okStatus sw && presents k h)) (one (okStatus sw && unblocks k h)) (one (wrongStatus sw && presents k h))
+    one-call k bytes p =
+        record {
+          reached =
+              record {
+                calls = sent apdu ∷ [];
+                ofBytes = rw (sent-bytes apdu bytes);
+                restored = omega (arith, ap one (counts okStatus (presents k)));
+                unblocked = omega (arith, ap one (counts okStatus (unblocks k)));
+                wrong = omega (arith, ap one (counts wrongStatus (presents k)));
+              };
+          leads = rw leads-to (p (rw leads-to at (kept c (sent apdu) (sent-bytes apdu bytes) isGood)));
+        }
+
+  -- A VERIFY of code j with some digits, which is answered by a status word.
+  verify-call : (j k : ℕ) (c d : Card) (v : Bytes) (sw : ℕ) {P : Card → Type 0}
+      → j < 3 → 1 ≤ length v → length v ≤ 12 → allDigits v ≡ true → good c ≡ true → c .session .job .kind ≡ 0
+      → judged (dropPending c) j v (status (afterVerify c j) 0x9000) ≡ status d sw → (good d ≡ true → P d)
+      → Run k c P (one (okStatus sw && eqb j k)) 0 (one (wrongStatus sw && eqb j k))
+  verify-call j k c d v sw h some short digits isGood noJob judgement p =
+      recount
+      (rw (verify-presents j v some k))
+      (rw (verify-no-unblocking j v some k, and-false))
+      (rw (verify-presents j v some k))
+      (one-call c d (verifyApdu j v) (verifyHeader j v) sw isGood noJob (verify-form j v some) (verify-judged j v some c h ∙ judgement)
+      k (verify-bytes j v some h short (digits-bytes v digits)) p)
+
+  -- The right value of code j.
+  right-value : (j k : ℕ) (c : Card) {P : Card → Type 0} → j < 3 → good c ≡ true → c .session .job .kind ≡ 0 → 1 ≤ codeOf c j .tries
+      → (good (afterVerify c j) ≡ true → P (afterVerify c j)) → Run k c P (one (eqb j k)) 0 0
+  unfolding judged okStatus wrongStatus
+  right-value j k c h isGood noJob tries p =
+      let v = codeOf c j in
+      let g : goodCode j v ≡ true = good-code c isGood j h in
+      verify-call j k c (afterVerify c j) (value v) 0x9000 h
+      (omega (arith, value-least j v g))
+      (value-most j v g)
+      (code-digits j v g)
+      isGood
+      noJob
+      (simp (ne-eqb (v .tries) 0 (omega arith), same-refl (value v)))
+      p
+
+  module _ (k : ℕ) (h : k < 3) where
+    -- A wrong value of code k: one digit.
+    wrong-value : (n : ℕ) (c : Card) → TriesLeft k (suc n) c → Run k c (TriesLeft k n) 0 0 1
+    unfolding judged
+    wrong-value n c before =
+        let v = codeOf c k in
+        let g : goodCode k v ≡ true = good-code c (before .isGood) k h in
+        let few : v .tries - 1 ≤ 15 = omega (arith, code-tries k v g) in
+        let less : Code = marked v (v .tries - 1) false in
+        recount
+        (rw (wrong-not-ok (v .tries - 1) few))
+        refl
+        (rw (wrong-status (v .tries - 1) few, eq-eqb k k refl))
+        (verify-call k k c (withCode (dropPending c) k less) (0x30 ∷ []) (0x63C0 + (v .tries - 1)) h
+        (omega arith)
+        (omega arith)
+        refl
+        (before .isGood)
+        (before .noJob)
+        (simp (ne-eqb (v .tries) 0 (omega (arith, before .left)), unlike-length (0x30 ∷ []) (value v) (omega (arith, value-least k v g))))
+        (replaced k (suc n) n c less before (code-place c (before .isGood) k h) (omega (arith, before .left))))
+
+    -- The right value of code k.
+    restore : (n : ℕ) (c : Card) → TriesLeft k (suc n) c → Run k c (TriesLeft k 3) 1 0 0
+    restore n c before =
+        recount (rw (eq-eqb k k refl)) refl refl
+        (right-value k k c h (before .isGood) (before .noJob) (omega (arith, before .left))
+        (replaced k (suc n) 3 c (marked (codeOf c k) fullTries true) before (code-place c (before .isGood) k h) refl))
+
+    two-wrong : (c : Card) → TriesLeft k 3 c → Run k c (TriesLeft k 1) 0 0 2
+    two-wrong c before = then (wrong-value 2 c before) (wrong-value 1)
+
+    three-wrong : (c : Card) → TriesLeft k 3 c → Run k c (TriesLeft k 0) 0 0 3
+    three-wrong c before = then (two-wrong c before) (wrong-value 0)
+
+    -- Two wrong values and the right one, r times.
+    restorings : (r : ℕ) (c : Card) → TriesLeft k 3 c → Run k c (TriesLeft k 3) r 0 (2 * r)
+    restorings zero c before = stay before
+    restorings (suc r) c before =
+        recount (omega arith) refl (omega arith)
+        (then (then (two-wrong c before) (restore 0)) (restorings r))
+
+    -- Where code k is a PIN:
+    module _ (pin : 1 ≤ k) where
+      -- The right PUK.
+      puk-value : (c : Card) → TriesLeft k 0 c → Run k c (PukVerified k) 0 0 0
+      puk-value c before =
+          let place = code-place c (before .isGood) PUK (omega arith) in
+          let v : Code = marked (codeOf c PUK) fullTries true in
+          recount (rw (ne-eqb PUK k (omega arith))) refl refl
+          (right-value PUK k c (omega arith) (before .isGood) (before .noJob) (omega (arith, before .puk (omega arith)))
+          (λ g. record {
+            blocked =
+                record {
+                  isGood = g;
+                  noJob = before .noJob;
+                  left = tries-other c PUK v place k (omega arith) ∙ before .left;
+                  puk = λ other. tries-same c PUK v place;
+                };
+            shown = ap (λ (v : Code). v .verified) (code-same (c .codes) PUK v place);
+          }))
+
+      -- The unblocking.
+      unblock-call : (c : Card) → PukVerified k c → Run k c (TriesLeft k 3) 0 1 0
+      unfolding okStatus wrongStatus
+      unblock-call c opened =
+          let before = opened .blocked in
+          let place = code-place c (before .isGood) in
+          let v : Code = marked (codeOf c k) fullTries false in
+          let c′ : Card = withCode (dropPending c) k v in
+          let v′ : Code = marked (codeOf c′ PUK) (codeOf c′ PUK .tries) false in
+          let place′ : PUK < length (c′ .codes) = omega (arith, length-set (c .codes) k v, place PUK (omega arith)) in
+          recount
+          (rw (unblock-no-presentation k))
+          (rw (unblock-unblocks k pin))
+          refl
+          (one-call c (afterUnblock (dropPending c) k) (unblockApdu k) (unblockHeader k) 0x9000 (before .isGood) (before .noJob)
+          (unblock-form k)
+          (unblock-judged k c pin h (before .left) (opened .shown))
+          k
+          (rw (lt-ltb k 256 (omega arith)))
+          (λ g. record {
+            isGood = g;
+            noJob = before .noJob;
+            left = tries-other c′ PUK v′ place′ k (omega arith) ∙ tries-same c k v (place k h);
+            puk = λ other. tries-same c′ PUK v′ place′ ∙ tries-other c k v (place k h) PUK other ∙ before .puk other;
+          }))
+
+      -- Three wrong values and an unblocking, u times.
+      unblockings : (u : ℕ) (c : Card) → TriesLeft k 3 c → Run k c (TriesLeft k 3) 0 u (3 * u)
+      unblockings zero c before = stay before
+      unblockings (suc u) c before =
+          recount refl (omega arith) (omega arith)
+          (then (then (then (three-wrong c before) puk-value) unblock-call) (unblockings u))
+
+  -- The bound is met. PUK is never unblocked.
+  pub met : (k : ℕ) → k < 3 → (r u : ℕ) → (k ≡ 0 → u ≡ 0) → (c : Card) → Ready k c → Reached c k r u (3 + 2 * r + 3 * u)
+  met k h r u none c ready =
+      let start : TriesLeft k 3 c = record { isGood = ready .isGood; noJob = ready .noJob; left = ready .left; puk = λ other. ready .puk } in
+      let restored : Run k c (TriesLeft k 3) r 0 (2 * r) = restorings k h r c start in
+      let run : Run k c (TriesLeft k 0) r u (3 + 2 * r + 3 * u) =
+      either _ k 0
+      (λ e. recount (omega arith) (omega (arith, none e)) (omega (arith, none e)) (then restored (three-wrong k h)))
+      (λ n. recount (omega arith) (omega arith) (omega arith) (then (then restored (unblockings k h (omega arith) u)) (three-wrong k h))) in
+      run .reached
