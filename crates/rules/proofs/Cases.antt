@@ -1,4 +1,4 @@
--- P1 to P10 hold, computed from the rules; and the sample image loads as the sample card.
+-- P1 to P10 hold: the rules compute what the cases expect. And the sample image loads as the sample card.
 use mathlib.Core.Path.{_≡_, refl}
 use Rattle.octets.specs.Octets.{blank, filled}
 use Rattle.pkcs1.specs.Pkcs1.{padded, cannotPad, pad, beforeZero, enciphered, strip}

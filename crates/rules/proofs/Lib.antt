@@ -2,6 +2,7 @@ pub mod Cases
 pub mod Parts
 pub mod StatusWords
 pub mod Sheet
-pub mod Bound
-pub mod BoundMet
+pub mod SequenceBound
+pub mod SequenceMet
 pub mod Loading
+pub mod Demand3

@@ -448,7 +448,7 @@ module _ (k : ℕ) (h3 : k < 3) (c : Card) (g : good c ≡ true) (b auth sig w :
         judged-sheet j (omega arith) _ _
         (change-presents j ∙ eq-eqb j j refl)
         (λ m n. change-presents m ∙ ne-eqb j m (λ e. n (sym e)))
-        (λ some. split S (allowed j new)
+        (λ some. split S (not (allowed j new)) (λ _. unfold okStatus wrongStatus in turned-down 0x6A80 refl refl)
         (λ a. either (S (status c′ 0x9000)) k j
         (λ e.
         let now : codeOf c′ k ≡ v = replaced (dropPending c) j v (omega arith) refl e in
@@ -456,7 +456,7 @@ module _ (k : ℕ) (h3 : k < 3) (c : Card) (g : good c ≡ true) (b auth sig w :
         accepted c′
         (ap (λ (v : Code). v .verified) now ∙ rw (verifies-no k h (rw i), change-tests k, it))
         (ap (λ (v : Code). v .tries) now ∙ rw (change-presents k, it))
-        (ap value now ∙ take-filled 12 new (allowed-most j new a)
+        (ap value now ∙ take-filled 12 new (allowed-most j new (not-false _ a))
         ∙ rw (change-tests k, it, e, code-length j (codeOf c j) (good-code c g j (omega arith))))
         (λ _. rw e some)
         (never free-k))
@@ -468,8 +468,7 @@ module _ (k : ℕ) (h3 : k < 3) (c : Card) (g : good c ≡ true) (b auth sig w :
         (ap (λ (v : Code). v .tries) now ∙ rw (change-presents k, other, free-k))
         (ap value now ∙ rw (change-tests k, other, free-k))
         (never (change-presents k ∙ other))
-        (never free-k)))
-        (λ _. unfold okStatus wrongStatus in turned-down 0x6A80 refl refl))
+        (never free-k))))
 
   -- 2C RESET RETRY
   module _ (i : h .ins ≡ 0x2C) (pin : 1 ≤ h .p2) (few : h .p2 ≤ 2) where
@@ -565,17 +564,16 @@ module _ (k : ℕ) (h3 : k < 3) (c : Card) (g : good c ≡ true) (b auth sig w :
         judged-sheet PUK (omega arith) _ _
         (puk-presents PUK ∙ rw q)
         (λ m n. puk-presents m ∙ rw (ne-eqb m PUK n))
-        (λ some. split S (allowed j new)
+        (λ some. split S (not (allowed j new)) (λ _. unfold okStatus wrongStatus in turned-down 0x6A80 refl refl)
         (λ a. done
         (λ e.
         let now : codeOf c₂ k ≡ v = beside c₁ PUK u (omega arith) one-set (omega arith) ∙ replaced (dropPending c) j v (omega arith) refl e in
         pin-done (rw q) blocked c₂ e (ap (λ (v : Code). v .verified) now) (ap (λ (v : Code). v .tries) now)
-        (ap value now ∙ take-filled 12 new (allowed-most j new a) ∙ rw (q, code-length PUK (codeOf c PUK) (good-code c g PUK (omega arith)))))
+        (ap value now ∙ take-filled 12 new (allowed-most j new (not-false _ a)) ∙ rw (q, code-length PUK (codeOf c PUK) (good-code c g PUK (omega arith)))))
         (λ e.
         let now : codeOf c₂ k ≡ u = replaced c₁ PUK u (omega arith) one-set e in
         puk-done (rw q) blocked c₂ e (ap (λ (v : Code). v .verified) now) (ap (λ (v : Code). v .tries) now ∙ rw q) (ap value now ∙ rw e) (λ _. rw e some))
-        (λ n m. beside c₁ PUK u (omega arith) one-set m ∙ beside (dropPending c) j v (omega arith) refl n))
-        (λ _. unfold okStatus wrongStatus in turned-down 0x6A80 refl refl))
+        (λ n m. beside c₁ PUK u (omega arith) one-set m ∙ beside (dropPending c) j v (omega arith) refl n)))
 
     resetRetry-sheet : (eqb (h .p1) 0x00 || eqb (h .p1) 0x03) ≡ true → S (resetRetry (dropPending c) h (dataOf b h))
     unfolding resetRetry

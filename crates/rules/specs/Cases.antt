@@ -149,9 +149,36 @@ cases =
     -- P9 decipher parts of 255 zero bytes (class 10h) and 2 bytes (class 00h) join to 257: 9000, then 6985; 255 and 3: 9000, then 6700
     ∷ record { seen = onSample (decipherPart 0x10 255 ∷ decipherPart 0x00 2 ∷ []); expected = sw 0x9000 ∷ sw 0x6985 ∷ fresh }
     ∷ record { seen = onSample (decipherPart 0x10 255 ∷ decipherPart 0x00 3 ∷ []); expected = sw 0x9000 ∷ sw 0x6700 ∷ fresh }
+    -- a first byte 81h is not 00: no half marks are read in the chain
+    ∷ record {
+      seen = onSample (withBody 0x10 0x2A 0x80 0x86 (0x81 ∷ replicate 254 0x00) ∷ decipherPart 0x00 2 ∷ []);
+      expected = sw 0x9000 ∷ sw 0x6A80 ∷ fresh;
+    }
     -- P10 padding n = 245 has 8 FF bytes; 246 is refused
     ∷ record { seen = padding 245; expected = pads 256 8 ∷ [] }
     ∷ record { seen = padding 246; expected = pads 0 0 ∷ [] }
+    -- the transcript that document 01 prints
+    ∷ record {
+      seen = onSample (
+        PowerReset
+        ∷ wrongPin1
+        ∷ verifyOf PIN1 pin1
+        ∷ send (0x00 ∷ 0xA4 ∷ 0x02 ∷ 0x0C ∷ 0x02 ∷ 0x00 ∷ 0x16 ∷ [])
+        ∷ send (0x00 ∷ 0xB2 ∷ 0x01 ∷ 0x04 ∷ 0x00 ∷ [])
+        ∷ send (0x00 ∷ 0xB2 ∷ 0x03 ∷ 0x04 ∷ 0x00 ∷ [])
+        ∷ send (0xFF ∷ [])
+        ∷ []
+      );
+      expected =
+          isReset
+          ∷ sw 0x63C2
+          ∷ sw 0x9000
+          ∷ sw 0x9000
+          ∷ shows (0x80 ∷ 0x01 ∷ 0x03 ∷ 0x90 ∷ 0x01 ∷ 0x03 ∷ 0x83 ∷ 0x02 ∷ 0x00 ∷ 0x00 ∷ []) 0x9000
+          ∷ shows (0x80 ∷ 0x01 ∷ 0x03 ∷ 0x90 ∷ 0x01 ∷ 0x03 ∷ []) 0x9000
+          ∷ sw 0x6700
+          ∷ code PUK 3 false ∷ code PIN1 3 true ∷ code PIN2 3 false ∷ [];
+    }
     ∷ []
 
 -- P1 to P10, together.

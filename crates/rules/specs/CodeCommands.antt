@@ -37,9 +37,8 @@ unfoldable pub change : Card → Header → Bytes → Step
 change c h d =
     let k = h .p2 in
     judged c k (oldValue c k d)
-    (cond (allowed k (newValue c k d))
-    (status (withCode c k (storing (newValue c k d) fullTries false)) 0x9000)
-    (status c 0x6A80))
+    (cond (not (allowed k (newValue c k d))) (status c 0x6A80)
+    (status (withCode c k (storing (newValue c k d) fullTries false)) 0x9000))
 
 -- 2C with P1 03. PUK not verified 6982; else tries 3, PIN and PUK marks off, 9000.
 unfoldable pub unblockByVerifiedPuk : Card → ℕ → Step
@@ -52,9 +51,8 @@ unblockByVerifiedPuk c pin =
 unfoldable pub unblockByPresentedPuk : Card → ℕ → Bytes → Step
 unblockByPresentedPuk c pin d =
     judged c PUK (oldValue c PUK d)
-    (cond (allowed pin (newValue c PUK d))
-    (status (withCode (withCode c pin (storing (newValue c PUK d) fullTries false)) PUK (marked (codeOf c PUK) fullTries false)) 0x9000)
-    (status c 0x6A80))
+    (cond (not (allowed pin (newValue c PUK d))) (status c 0x6A80)
+    (status (withCode (withCode c pin (storing (newValue c PUK d) fullTries false)) PUK (marked (codeOf c PUK) fullTries false)) 0x9000))
 
 -- 2C RESET RETRY. PIN has tries: 6A86.
 unfoldable pub resetRetry : Card → Header → Bytes → Step

@@ -1,0 +1,40 @@
+-- Demand 3, whole.
+use mathlib.Core.Path.{_≡_, refl, sym, ap, _∙_}
+use mathlib.Core.Bool.{true}
+use Prim.Native.Nat.{ℕ, _<_}
+use native.Mathlib.Omega.{arith}
+use Rattle.rules.specs.declared.Session.{Session}
+use Rattle.rules.specs.declared.Card.{Card}
+use Rattle.rules.specs.State.{good}
+use Rattle.rules.specs.Session.{newSession}
+use Rattle.rules.specs.Image.{load}
+use Rattle.rules.specs.Counting.{Call, next, ofBytes}
+use Rattle.rules.specs.Demands.{Demand3}
+use Rattle.rules.proofs.SequenceBound.{wrong-bound, signature-bound}
+use Rattle.rules.proofs.SequenceMet.{met}
+use Rattle.rules.proofs.Loading.{fresh}
+
+
+pub demand-3 : ((c : Card) (x : Call) → ofBytes x ≡ true → good c ≡ true → good (next c x) ≡ true) → Demand3
+unfolding newSession
+demand-3 kept image accepted =
+    let c = load image .card in
+    let f = fresh image accepted in
+    record {
+      bound = λ calls k h. omega (arith, wrong-bound k h c calls, f .tries k h);
+      met = λ three k h r u puk.
+          let there = met kept k h r u puk c (record {
+            isGood = f .isGood;
+            noJob = ap (λ (s : Session). s .job .kind) (f .session);
+            left = f .tries k h ∙ three k h;
+            puk = f .tries 0 (omega arith) ∙ three 0 (omega arith);
+          }) in
+          record {
+            calls = there .calls;
+            ofBytes = there .ofBytes;
+            restored = omega (arith, there .restored);
+            unblocked = omega (arith, there .unblocked);
+            wrong = omega (arith, there .wrong);
+          };
+      signed = λ calls. omega (arith, signature-bound c calls (f .unverified 2 (omega arith)));
+    }
