@@ -13,11 +13,11 @@ use Rattle.rules.specs.Demands.{Demand3}
 use Rattle.rules.proofs.SequenceBound.{wrong-bound, signature-bound}
 use Rattle.rules.proofs.SequenceMet.{met}
 use Rattle.rules.proofs.Loading.{fresh}
+use Rattle.rules.proofs.Keeping.{kept}
 
-
-pub demand-3 : ((c : Card) (x : Call) → ofBytes x ≡ true → good c ≡ true → good (next c x) ≡ true) → Demand3
+pub demand-3 : Demand3
 unfolding newSession
-demand-3 kept image accepted =
+demand-3 image accepted =
     let c = load image .card in
     let f = fresh image accepted in
     record {

@@ -4,5 +4,13 @@ pub mod StatusWords
 pub mod Sheet
 pub mod SequenceBound
 pub mod SequenceMet
+pub mod Sessions
 pub mod Loading
+pub mod KeepingAnswers
+pub mod KeepingFiles
+pub mod KeepingCodes
+pub mod KeepingKeys
+pub mod Keeping
+pub mod Demand1
+pub mod GoodStates
 pub mod Demand3

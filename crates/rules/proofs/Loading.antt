@@ -23,6 +23,7 @@ use Rattle.rules.specs.State.{goodRoom, goodCode, goodReferences, goodRe
 use Rattle.rules.specs.Image.{Read, got, fault, Reader, continued, require, byteIf, bytesIf, readCode, readKeys, eachClass, keyMarks, readRecord, readRecords, end, readCard, faultNumber, zeroCard, loaded, load}
 use Rattle.rules.specs.Counting.{imageFrom, triesAtLoad}
 use Rattle.rules.specs.Demands.{Images}
+use Rattle.rules.proofs.Sessions.{new-session-good}
 use Rattle.rules.proofs.Parts.{filled-room, marked-good, stored-good, good-card}
 
 -- What a reading ensures: nothing where it met a fault, and else Q of what was read and of the bytes after it.
@@ -166,11 +167,6 @@ end-ensures : (b : Bytes) → Ensures (λ _ _. length b ≡ 0) (end b)
 unfolding end
 end-ensures [] = found refl
 end-ensures (x ∷ b) = failed
-
--- A new session is good on every card.
-pub new-session-good : (keys : List Bool) → goodSession keys newSession ≡ true
-unfolding goodSession newSession goodSelection goodEnvironment goodRoom goodJob filled blank
-new-session-good keys = refl
 
 -- The all-zero state is not good.
 pub zero-not-good : good zeroCard ≡ false

@@ -10,7 +10,7 @@ use lib.ListN.{length, getD, set, take, drop, length-take, List·getD-eq-default
 use lib.Seq.{getD-set-same, getD-set-other}
 use borrow.Author.Tests.{eqb-true, leb-true, ltb-true, ltb-false, eq-eqb, le-leb}
 use Rattle.octets.specs.Octets.{Bytes, every, allDigits, allZero, filled}
-use Rattle.octets.proofs.Tests.{split, by-test, either, and-left, and-right, nth, below-three}
+use Rattle.octets.proofs.Tests.{split, by-test, and-left, and-right, nth, below-three}
 use Rattle.octets.proofs.Strings.{length-filled, take-filled, rest-filled}
 use Rattle.rules.specs.declared.Card.{Card}
 use Rattle.rules.specs.declared.Code.{Code}
@@ -151,9 +151,3 @@ module _ (l : List Code) (j : ℕ) (v : Code) (h : j < length l) where
 
   pub code-other : (k : ℕ) → k ≢ j → getD (set l j v) k noCode ≡ getD l k noCode
   code-other k n = getD-set-other l j k v noCode n
-
-  -- what holds of the new code, and of every other one, holds of all
-  pub each-code : (P : ℕ → Code → Type 0) → P j v → (k : ℕ) → P k (getD l k noCode) → P k (getD (set l j v) k noCode)
-  each-code P p k q = either _ k j
-      (λ e. rw e (rw code-same p))
-      (λ n. rw (code-other k n) q)

@@ -305,7 +305,7 @@ module _ (k : ℕ) (h3 : k < 3) (c : Card) (g : good c ≡ true) (b auth sig w :
       → codeOf c′ k .verified ≡ (verifies k h || (not (changes k h || unblocks k h || eqb k PUK && anyUnblocks h) && codeOf c k .verified))
       → codeOf c′ k .tries ≡ cond (presents k h || unblocks k h) 3 (codeOf c k .tries)
       → value (codeOf c′ k) ≡ cond (changes k h) (drop (length (value (codeOf c k))) (dataOf b h))
-        (cond (storesPin k h) (drop (length (value (codeOf c PUK))) (dataOf b h)) (value (codeOf c k)))
+      (cond (storesPin k h) (drop (length (value (codeOf c PUK))) (dataOf b h)) (value (codeOf c k)))
       → (presents k h ≡ true → 1 ≤ codeOf c k .tries) → (unblocks k h ≡ true → codeOf c k .tries ≡ 0)
       → S (status c′ 0x9000)
   unfolding written replyKind wasReset opens closes

@@ -160,15 +160,15 @@ cases =
     -- the transcript that document 01 prints
     ∷ record {
       seen = onSample (
-        PowerReset
-        ∷ wrongPin1
-        ∷ verifyOf PIN1 pin1
-        ∷ send (0x00 ∷ 0xA4 ∷ 0x02 ∷ 0x0C ∷ 0x02 ∷ 0x00 ∷ 0x16 ∷ [])
-        ∷ send (0x00 ∷ 0xB2 ∷ 0x01 ∷ 0x04 ∷ 0x00 ∷ [])
-        ∷ send (0x00 ∷ 0xB2 ∷ 0x03 ∷ 0x04 ∷ 0x00 ∷ [])
-        ∷ send (0xFF ∷ [])
-        ∷ []
-      );
+          PowerReset
+          ∷ wrongPin1
+          ∷ verifyOf PIN1 pin1
+          ∷ send (0x00 ∷ 0xA4 ∷ 0x02 ∷ 0x0C ∷ 0x02 ∷ 0x00 ∷ 0x16 ∷ [])
+          ∷ send (0x00 ∷ 0xB2 ∷ 0x01 ∷ 0x04 ∷ 0x00 ∷ [])
+          ∷ send (0x00 ∷ 0xB2 ∷ 0x03 ∷ 0x04 ∷ 0x00 ∷ [])
+          ∷ send (0xFF ∷ [])
+          ∷ []
+          );
       expected =
           isReset
           ∷ sw 0x63C2

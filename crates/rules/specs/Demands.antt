@@ -17,7 +17,7 @@ use Rattle.rules.specs.Codes.{PUK}
 use Rattle.rules.specs.State.{good}
 use Rattle.rules.specs.Edge.{refused}
 use Rattle.rules.specs.Image.{load, zeroCard, faultNumber}
-use Rattle.rules.specs.Counting.{Call, Command, Delivery, PowerReset, step, next, exchange, trace, statusWord, wrongAnswers, restorations, unblockings, signatures, presentations, allOfBytes, triesAtLoad}
+use Rattle.rules.specs.Counting.{Call, Command, Delivery, PowerReset, step, next, exchange, trace, statusWord, wrongAnswers, restorations, unblockings, signatures, presentations, ofBytes, allOfBytes, triesAtLoad}
 
 -- The buffer that a call brings.
 abbrev pub bufferOf : Call → Bytes
@@ -45,12 +45,12 @@ pub record Defined (c : Card) (x : Call) : Type 0 where
   pub sized : length (step c x .1) ≡ length (bufferOf x)
 
 abbrev pub Demand1 : Type 0
-Demand1 = (c : Card) (x : Call) → Defined c x
+Demand1 = (c : Card) (x : Call) → ofBytes x ≡ true → Defined c x
 
 -- Good states: load gives one, every call keeps one, and the all-zero state is none.
 pub record GoodStates : Type 0 where
   pub atLoad : (image : Bytes) → load image .result ≡ Accepted → good (load image .card) ≡ true
-  pub kept : (c : Card) (x : Call) → good c ≡ true → good (next c x) ≡ true
+  pub kept : (c : Card) (x : Call) → ofBytes x ≡ true → good c ≡ true → good (next c x) ≡ true
   pub zero : good zeroCard ≡ false
 
 -- Images: one that loads has 84 to 1,115 bytes; a refused one gives one of 21 to 27 beside the all-zero state.

@@ -36,7 +36,6 @@ Reader A = Bytes → Read A
 
 -- One reading after another, in a `do` block.
 infixl 1 _>>=_ _>>_
-
 abbrev pub continued : {A B : Type 0} → Read A → (A → Reader B) → Read B
 continued (got a rest) next = next a rest
 continued (fault f) next = fault f

@@ -27,22 +27,22 @@ goodRoom size bytes len = every (eqb (length bytes) size ∷ leb len size ∷ al
 unfoldable pub goodCode : ℕ → Code → Bool
 goodCode k v =
     every (
-      goodRoom most (v .digits) (v .len)
-      ∷ leb (least k) (v .len)
-      ∷ allDigits (value v)
-      ∷ leb (v .tries) fullTries
-      ∷ (not (v .verified) || eqb (v .tries) fullTries)
-      ∷ []
+    goodRoom most (v .digits) (v .len)
+    ∷ leb (least k) (v .len)
+    ∷ allDigits (value v)
+    ∷ leb (v .tries) fullTries
+    ∷ (not (v .verified) || eqb (v .tries) fullTries)
+    ∷ []
     )
 
 -- The record of 0033h has 21 bytes, and the active key of each class is present and of its class.
 unfoldable pub goodReferences : List Bool → Bytes → Bool
 goodReferences keys references =
     every (
-      eqb (length references) 21
-      ∷ usable keys 1 (activeKey references 1)
-      ∷ usable keys 2 (activeKey references 2)
-      ∷ []
+    eqb (length references) 21
+    ∷ usable keys 1 (activeKey references 1)
+    ∷ usable keys 2 (activeKey references 2)
+    ∷ []
     )
 
 -- A personal record: its bytes, and zeros in the unused places.
@@ -58,9 +58,9 @@ goodRecords (suc n) rs = goodRecords n rs && goodRecord (getD rs n noRecord)
 unfoldable pub goodSelection : Selection → Bool
 goodSelection s =
     every (
-      (eqb (s .directory) root || eqb (s .directory) personalDirectory)
-      ∷ (eqb (s .file) noFile || member (s .file) (filesIn (s .directory)))
-      ∷ []
+    (eqb (s .directory) root || eqb (s .directory) personalDirectory)
+    ∷ (eqb (s .file) noFile || member (s .file) (filesIn (s .directory)))
+    ∷ []
     )
 
 -- A key choice: "active", or a present key of its class.
@@ -71,12 +71,12 @@ goodChoice keys choices kind = eqb (choiceOf choices kind) 0 || usable keys kind
 unfoldable pub goodEnvironment : List Bool → Environment → Bool
 goodEnvironment keys e =
     every (
-      eqb (length (e .choices)) 3
-      ∷ (eqb (e .number) 1 || eqb (e .number) 6)
-      ∷ goodChoice keys (e .choices) 1
-      ∷ goodChoice keys (e .choices) 2
-      ∷ goodChoice keys (e .choices) 3
-      ∷ []
+    eqb (length (e .choices)) 3
+    ∷ (eqb (e .number) 1 || eqb (e .number) 6)
+    ∷ goodChoice keys (e .choices) 1
+    ∷ goodChoice keys (e .choices) 2
+    ∷ goodChoice keys (e .choices) 3
+    ∷ []
     )
 
 -- The held answer has at most 256 bytes; the chain at most 257.
@@ -100,24 +100,24 @@ jobExcludes s = eqb (s .job .kind) 0 || eqb (s .held .len) 0 && eqb (s .chain .l
 unfoldable pub goodSession : List Bool → Session → Bool
 goodSession keys s =
     every (
-      goodSelection (s .selection)
-      ∷ goodEnvironment keys (s .environment)
-      ∷ goodHeld (s .held)
-      ∷ goodChain (s .chain)
-      ∷ goodJob keys (s .job)
-      ∷ jobExcludes s
-      ∷ []
+    goodSelection (s .selection)
+    ∷ goodEnvironment keys (s .environment)
+    ∷ goodHeld (s .held)
+    ∷ goodChain (s .chain)
+    ∷ goodJob keys (s .job)
+    ∷ jobExcludes s
+    ∷ []
     )
 
 -- A good state.
 unfoldable pub good : Card → Bool
 good c =
     every (
-      goodCode PUK (codeOf c PUK)
-      ∷ goodCode PIN1 (codeOf c PIN1)
-      ∷ goodCode PIN2 (codeOf c PIN2)
-      ∷ goodReferences (c .keys) (c .references)
-      ∷ goodRecords 16 (c .personal)
-      ∷ goodSession (c .keys) (c .session)
-      ∷ []
+    goodCode PUK (codeOf c PUK)
+    ∷ goodCode PIN1 (codeOf c PIN1)
+    ∷ goodCode PIN2 (codeOf c PIN2)
+    ∷ goodReferences (c .keys) (c .references)
+    ∷ goodRecords 16 (c .personal)
+    ∷ goodSession (c .keys) (c .session)
+    ∷ []
     )

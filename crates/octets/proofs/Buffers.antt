@@ -1,0 +1,29 @@
+-- Laws of places in a string or a list, and of one of two tests.
+use mathlib.Core.Path.{_≡_}
+use mathlib.Core.Bool.{Bool, true, _||_}
+use mathlib.Core.List.{List, [], _∷_}
+use Prim.Native.Nat.{ℕ, zero, suc, _<_}
+use native.Mathlib.Omega.{arith}
+use lib.Dec.{ltb}
+use lib.ListN.{length, getD, set}
+use lib.Seq.{getD-set-same, getD-set-other}
+use borrow.Author.Tests.{ltb-true}
+use Rattle.octets.specs.Octets.{Bytes, byteAt, allBytes}
+use Rattle.octets.proofs.Tests.{either, or-cases, and-left, and-right}
+
+-- A byte of a string of bytes, or the 0 past its end.
+pub byte-below : (b : Bytes) (i : ℕ) → allBytes b ≡ true → byteAt b i < 256
+byte-below [] i e = omega arith
+byte-below (x ∷ xs) zero e = ltb-true x 256 (and-left (ltb x 256) (allBytes xs) e)
+byte-below (x ∷ xs) (suc i) e = byte-below xs i (and-right (ltb x 256) (allBytes xs) e)
+
+-- What follows from each of two tests follows from one of them.
+pub from-either : {P : Type 0} {s t : Bool} → (s ≡ true → P) → (t ≡ true → P) → (s || t) ≡ true → P
+from-either {P} {s} {t} h g e = or-cases P s t e h g
+
+-- After the element in place j was replaced: what holds of the new one, and of the old one in place i, holds of the one in place i.
+pub each-place : {A : Type 0} (P : ℕ → A → Type 0) (l : List A) (j : ℕ) (v d : A) → j < length l → P j v
+    → (i : ℕ) → P i (getD l i d) → P i (getD (set l j v) i d)
+each-place P l j v d h p i q = either _ i j
+    (λ e. rw e (rw (getD-set-same l j v d h) p))
+    (λ n. rw (getD-set-other l j i v d n) q)
