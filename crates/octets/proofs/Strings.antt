@@ -5,8 +5,8 @@ use mathlib.Core.List.{List, [], _∷_, _++_}
 use Prim.Native.Nat.{ℕ, zero, suc, _+_, _-_, _≤_}
 use native.Mathlib.Omega.{arith}
 use lib.Dec.{eqb}
-use lib.ListN.{length, take, drop, replicate, length-append, length-replicate}
-use lib.Seq.{take-append-seam, drop-append-seam}
+use lib.ListN.{length, take, drop, replicate, length-append, length-replicate, length-take, length-drop}
+use lib.Seq.{take-append-seam, drop-append-seam, take-all}
 use borrow.Author.Tests.{eq-eqb}
 use Rattle.octets.specs.Octets.{Bytes, same, all, allZero, blank, filled}
 use Rattle.octets.proofs.Tests.{and-left, and-right}
@@ -35,3 +35,11 @@ module _ (n : ℕ) (d : Bytes) (h : length d ≤ n) where
   pub rest-filled : allZero (drop (length d) (filled n d)) ≡ true
   unfolding filled blank
   rest-filled = rw (drop-append-seam d (replicate (n - length d) 0)) (zeros-replicate (n - length d))
+
+-- All that stands after a place.
+pub take-rest : (b : Bytes) (at : ℕ) → take (length b) (drop at b) ≡ drop at b
+take-rest b at = take-all (length b) (drop at b) (omega (arith, length-drop at b))
+
+-- What was taken once.
+pub take-twice : (n : ℕ) (b : Bytes) → take n (take n b) ≡ take n b
+take-twice n b = take-all n (take n b) (omega (arith, length-take n b))

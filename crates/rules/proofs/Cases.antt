@@ -1,9 +1,7 @@
 -- P1 to P10 hold: the rules compute what the cases expect. And the sample image loads as the sample card.
-use mathlib.Core.Path.{_≡_, refl}
+use mathlib.Core.Path.{refl}
 use Rattle.octets.specs.Octets.{blank, filled}
 use Rattle.pkcs1.specs.Pkcs1.{padded, cannotPad, pad, beforeZero, enciphered, strip}
-use Rattle.rules.specs.declared.Loaded.{Loaded}
-use Rattle.rules.specs.declared.LoadResult.the-variants.{Accepted}
 use Rattle.rules.specs.Codes.{least, allowed}
 use Rattle.rules.specs.Keys.{ofClass, present, activeKey, keyFor}
 use Rattle.rules.specs.Session.{newSession}
@@ -21,13 +19,13 @@ use Rattle.rules.specs.Edge.{responseIn, written, command, delivery, pow
 use Rattle.rules.specs.Image.{byteIf, bytesIf, readCode, readKeys, readRecords, readCard, end, loaded, load}
 use Rattle.rules.specs.Image as Image
 use Rattle.rules.specs.Counting.{step, replyStatus}
-use Rattle.rules.specs.Sample.{sampleCard, sampleImage}
+use Rattle.rules.specs.Sample.{sampleCard, sampleImage, SampleLoads}
 use Rattle.rules.specs.Cases.{onSample, padding, cases, PCases}
 
 pub p-cases : PCases
 unfolding cases onSample padding sampleCard step command delivery powerReset written responseIn replyStatus good goodSession goodCode goodRoom goodReferences goodRecords goodSelection goodEnvironment goodJob filesIn present ofClass activeKey keyFor newSession blank filled least allowed parse dataOf judge judgeForm judgeHeader goodParameters goodLengths ownRules sessionCommand verify change resetRetry unblockByVerifiedPuk unblockByPresentedPuk judged select readRecord readBinary getResponse give moreBytes recordCount recordOf counterRecord pinRecord pukRecord certificateOf setEnvironment kindChosen chooseKey internalAuthenticate sign decipher isDigest prefixed sha2 padded cannotPad pad deliver strip enciphered beforeZero personalRecord
 p-cases = refl
 
-pub sample-loads : load sampleImage ≡ record { card = sampleCard; result = Accepted }
-unfolding load loaded readCard readCode readKeys readRecords Image.readRecord end byteIf bytesIf sampleImage sampleCard least filled blank newSession present ofClass activeKey
+pub sample-loads : SampleLoads
+unfolding load loaded readCard readCode readKeys readRecords Image.readPersonal end byteIf bytesIf sampleImage sampleCard least filled blank newSession present ofClass activeKey
 sample-loads = refl

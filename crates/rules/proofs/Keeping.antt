@@ -2,7 +2,7 @@
 use mathlib.Core.Path.{_≡_, refl}
 use mathlib.Core.Bool.{Bool, true, not, _&&_, _||_, or-false}
 use mathlib.Core.List.{List, [], _++_}
-use Prim.Native.Nat.{ℕ, _+_, _≤_, _<_}
+use Prim.Native.Nat.{ℕ, _+_, _-_, _≤_, _<_}
 use native.Mathlib.Omega.{arith}
 use lib.Dec.{eqb, leb}
 use lib.ListN.{length, drop, length-take}
@@ -128,7 +128,7 @@ parse-fits b bytes =
     (λ e. split FitLe (eqb (length b) 5) (λ e. form _ (le-most (byteAt b 4) (byte-below b 4 bytes)))
     (λ e. split FitLe (leb 1 (lcByte b) && eqb (length b) (5 + lcByte b)) (λ e. form _ (omega arith))
     (λ e. split FitLe (leb 1 (lcByte b) && eqb (length b) (6 + lcByte b))
-    (λ e. form _ (le-most (byteAt b (5 + lcByte b)) (byte-below b (5 + lcByte b) bytes)))
+    (λ e. form _ (le-most (byteAt b (length b - 1)) (byte-below b (length b - 1) bytes)))
     (λ e. malformed))))
 
 module _ (c : Card) (g : good c ≡ true) (idle : c .session .job .kind ≡ 0) (b authentication signature : Bytes) where

@@ -13,7 +13,7 @@ use Rattle.rules.specs.declared.Card.{Card}
 use Rattle.rules.specs.declared.Record.{Record}
 use Rattle.rules.specs.declared.Session.{Session}
 use Rattle.rules.specs.declared.Header.{Header}
-use Rattle.rules.specs.Session.{root, personalDirectory, noFile, heldBytes, withHeld}
+use Rattle.rules.specs.Session.{root, esteidDirectory, noFile, heldBytes, withHeld}
 use Rattle.rules.specs.Files.{filesIn, certificateFile, certificateOf, recordCount, counterRecord, pukRecord, pinRecord, personalRecord, recordOf, noRecord}
 use Rattle.rules.specs.State.{goodRecord, goodRecords, goodSelection, goodSession, good}
 use Rattle.rules.specs.Answers.{SessionStep}
@@ -79,10 +79,10 @@ module _ (keys : List Bool) (s : Session) (g : goodSession keys s ≡ true) (h :
   select-keeps d =
       let name : ℕ = word (byteAt d 0) (byteAt d 1) in
       let directory : ℕ = s .selection .directory in
-      let known : (eqb directory root || eqb directory personalDirectory) ≡ true = and-left _ _ (selection-good keys s g) in
+      let known : (eqb directory root || eqb directory esteidDirectory) ≡ true = and-left _ _ (selection-good keys s g) in
       split K (eqb (h .p1) 0x00) (λ e. sessionStatus-keeps (selection-replaced keys s g root noFile refl) refl)
-      (λ e. split K (eqb (h .p1) 0x01 && (eqb directory root && eqb name personalDirectory))
-      (λ e. sessionStatus-keeps (selection-replaced keys s g personalDirectory noFile refl) refl)
+      (λ e. split K (eqb (h .p1) 0x01 && (eqb directory root && eqb name esteidDirectory))
+      (λ e. sessionStatus-keeps (selection-replaced keys s g esteidDirectory noFile refl) refl)
       (λ e. split K (eqb (h .p1) 0x02 && member name (filesIn directory))
       (λ e. sessionStatus-keeps (selection-replaced keys s g directory name (simp (known, and-right (eqb (h .p1) 0x02) _ e, or-true))) refl)
       (λ e. sessionStatus-keeps g refl)))

@@ -20,7 +20,7 @@ use Rattle.rules.specs.Codes.{PUK, PIN1, PIN2, least, most, allowed, sto
 use Rattle.rules.specs.Keys.{signatureKey, authenticationKey, usable, activeKey}
 use Rattle.rules.specs.Session.{newSession}
 use Rattle.rules.specs.State.{goodRoom, goodCode, goodReferences, goodRecord, goodRecords, goodSelection, goodEnvironment, goodJob, goodSession, good}
-use Rattle.rules.specs.Image.{Read, got, fault, Reader, continued, require, byteIf, bytesIf, readCode, readKeys, eachClass, keyMarks, readRecord, readRecords, end, readCard, faultNumber, zeroCard, loaded, load}
+use Rattle.rules.specs.Image.{Read, got, fault, Reader, continued, require, byteIf, bytesIf, readCode, readKeys, eachClass, keyMarks, readPersonal, readRecords, end, readCard, faultNumber, zeroCard, loaded, load}
 use Rattle.rules.specs.Counting.{imageFrom, triesAtLoad}
 use Rattle.rules.specs.Demands.{Images}
 use Rattle.rules.proofs.Sessions.{new-session-good}
@@ -147,9 +147,9 @@ unfolding goodRecords
 records-good zero r rs p q = p
 records-good (suc n) r rs p q = rw (records-good n r rs p (and-left (goodRecords n rs) _ q)) (and-right (goodRecords n rs) _ q)
 
-readRecord-ensures : (b : Bytes) → Ensures (Used (λ r _. goodRecord r ≡ true) 2 65 b) (readRecord b)
-unfolding readRecord
-readRecord-ensures b =
+readPersonal-ensures : (b : Bytes) → Ensures (Used (λ r _. goodRecord r ≡ true) 2 65 b) (readPersonal b)
+unfolding readPersonal
+readPersonal-ensures b =
     goes-on (byteIf-ensures _ _ b) (λ n b₁ h₁.
     goes-on (bytesIf-ensures _ _ n b₁) (λ d rest h₂.
     let limits : (1 ≤ n) × (n ≤ 64) = between 1 n 64 (h₁ .what .passed) in
@@ -159,7 +159,7 @@ readRecords-ensures : (n : ℕ) (b : Bytes) → Ensures (Used (λ rs _. goodReco
 unfolding readRecords goodRecords
 readRecords-ensures zero b = found (record { what = refl; size = omega arith })
 readRecords-ensures (suc n) b =
-    goes-on (readRecord-ensures b) (λ r b₁ h₁.
+    goes-on (readPersonal-ensures b) (λ r b₁ h₁.
     goes-on (readRecords-ensures n b₁) (λ rs rest h₂.
     found (record { what = records-good n r rs (h₁ .what) (h₂ .what); size = omega arith })))
 

@@ -11,7 +11,7 @@ use Rattle.rules.specs.declared.Card.{Card}
 use Rattle.rules.specs.declared.Reply.{Reply}
 use Rattle.rules.specs.declared.Reply.the-variants.{Refused, Response, HandedOut, WasReset}
 use Rattle.rules.specs.Codes.{PIN2, codeOf}
-use Rattle.rules.specs.Counting.{Call, Exchange, step, next, exchange, after, trace, statusWord, replyStatus, replyKind, isCommand, okStatus, verifies, wrongAnswer, restoration, unblocking, rightVerify, signature, anyHeader, one, wrongAnswers, restorations, unblockings, signatures, presentations}
+use Rattle.rules.specs.Counting.{Call, Exchange, step, next, exchange, after, trace, statusWord, replyStatus, replyKind, isCommand, okStatus, verifies, wrongAnswer, restoration, unblocking, rightVerify, handsSignature, anyHeader, one, wrongAnswers, restorations, unblockings, signatures, pin2Presentations}
 use Rattle.rules.specs.CodeSheet.{Sheet, CodeSheet, opens, closes}
 use Rattle.rules.proofs.Sheet.{code-sheet}
 
@@ -42,7 +42,7 @@ job-status (Response n) w e = absurd (false≢true e)
 job-status (HandedOut kind key) w e = refl
 job-status WasReset w e = absurd (false≢true e)
 
-module _ (e : Exchange) (s : signature e ≡ true) where
+module _ (e : Exchange) (s : handsSignature e ≡ true) where
   signature-opens : opens PIN2 e ≡ false
   unfolding opens
   signature-opens = rw (job-status (e .reply) (e .buffer) (and-left _ (isCommand anyHeader (e .call)) s))
@@ -65,18 +65,18 @@ module _ (k : ℕ) (h3 : k < 3) where
   pub wrong-bound : (c : Card) (xs : List Call) → wrongAnswers k (trace c xs) ≤ codeOf c k .tries + 2 * restorations k (trace c xs) + 3 * unblockings k (trace c xs)
   wrong-bound c xs = omega (arith, tries-run c xs)
 
-mark-moved : (c : Card) (x : Call) → one (signature (exchange c x)) + one (codeOf (next c x) PIN2 .verified)
+mark-moved : (c : Card) (x : Call) → one (handsSignature (exchange c x)) + one (codeOf (next c x) PIN2 .verified)
     ≤ one (codeOf c PIN2 .verified) + one (rightVerify PIN2 (exchange c x))
 unfolding opens
 mark-moved c x =
     let s = code-sheet PIN2 (omega arith) c x in
     let e : Exchange = exchange c x in
-    mark-step (signature e) (opens PIN2 e) (closes PIN2 e) (codeOf c PIN2 .verified) (codeOf (next c x) PIN2 .verified) (s .verified) (s .signed) (signature-closes e) (signature-opens e)
+    mark-step (handsSignature e) (opens PIN2 e) (closes PIN2 e) (codeOf c PIN2 .verified) (codeOf (next c x) PIN2 .verified) (s .verified) (s .signed) (signature-closes e) (signature-opens e)
 
-mark-run : (c : Card) (xs : List Call) → signatures (trace c xs) + one (codeOf (after c xs) PIN2 .verified) ≤ one (codeOf c PIN2 .verified) + presentations (trace c xs)
+mark-run : (c : Card) (xs : List Call) → signatures (trace c xs) + one (codeOf (after c xs) PIN2 .verified) ≤ one (codeOf c PIN2 .verified) + pin2Presentations (trace c xs)
 mark-run c [] = omega arith
 mark-run c (x ∷ xs) = omega (arith, mark-run (next c x) xs, mark-moved c x)
 
--- signatures are at most right presentations of PIN2, from a card on which PIN2 is not verified
-pub signature-bound : (c : Card) (xs : List Call) → codeOf c PIN2 .verified ≡ false → signatures (trace c xs) ≤ presentations (trace c xs)
+-- signatures are at most right pin2Presentations of PIN2, from a card on which PIN2 is not verified
+pub signature-bound : (c : Card) (xs : List Call) → codeOf c PIN2 .verified ≡ false → signatures (trace c xs) ≤ pin2Presentations (trace c xs)
 signature-bound c xs m = omega (arith, mark-run c xs, ap one m)

@@ -29,7 +29,7 @@ use Rattle.rules.specs.Codes.{PUK, PIN1, PIN2, allowed, most, value, sto
 use Rattle.rules.specs.Apdu.{parse, dataOf}
 use Rattle.rules.specs.State.{good}
 use Rattle.rules.specs.Keys.{kindNumber, ofClass, present, keyFor}
-use Rattle.rules.specs.Session.{root, personalDirectory, noFile, heldBytes, chainBytes, withSession}
+use Rattle.rules.specs.Session.{root, esteidDirectory, noFile, heldBytes, chainBytes, withSession}
 use Rattle.rules.specs.Files.{filesIn, certificateFile, certificateOf, recordCount}
 use Rattle.rules.specs.Answers.{Answer, Step, SessionStep, response, job, status, inSession, give, handOut}
 use Rattle.rules.specs.FileCommands.{select, readRecord, readBinary, getResponse}
@@ -39,7 +39,7 @@ use Rattle.rules.specs.CodeCommands.{judged, verify, change, oldValue, n
 use Rattle.rules.specs.Judgement.{classes, instructions, badChaining, goodParameters, goodLengths, hasData, dropPending, sessionCommand, ownRules, judgeHeader, judgeForm, judge}
 use Rattle.rules.specs.Delivery.{deliver}
 use Rattle.rules.specs.Edge.{responseIn, refused, written, shortBuffer, badCertificate, jobWaits, command, delivery, powerReset}
-use Rattle.rules.specs.Counting.{Call, Command, Delivery, PowerReset, Exchange, step, exchangeOf, statusWord, replyStatus, replyKind, isCommand, formIs, okStatus, wrongStatus, verifies, changes, presentsPuk, unblocks, presents, wrongAnswer, restoration, unblocking, rightVerify, signature, anyHeader}
+use Rattle.rules.specs.Counting.{Call, Command, Delivery, PowerReset, Exchange, step, exchangeOf, statusWord, replyStatus, replyKind, isCommand, formIs, okStatus, wrongStatus, verifies, changes, presentsPuk, unblocks, presents, wrongAnswer, restoration, unblocking, rightVerify, handsSignature, anyHeader}
 use Rattle.rules.specs.CodeSheet.{CodeSheet, changed, anyUnblocks, unblocked, storesPin, wasReset, opens, closes, Sheet, dataSent}
 use Rattle.rules.proofs.StatusWords.{status-read, wrong-status, wrong-not-ok}
 use Rattle.rules.proofs.Parts.{good-code, code-length, code-tries, allowed-most, code-place, code-same, code-other}
@@ -53,7 +53,7 @@ record Silent (k : ℕ) (e : Exchange) : Type 0 where
   freeing : unblocking k e ≡ false
   closing-puk : (eqb k PUK && unblocked e) ≡ false
   storing-pin : (okStatus (statusWord e) && isCommand (storesPin k) (e .call)) ≡ false
-  signing : signature e ≡ false
+  signing : handsSignature e ≡ false
   resetting : wasReset (e .reply) ≡ false
 
 never : {A : Type 0} {t : Bool} → t ≡ false → t ≡ true → A
@@ -134,7 +134,7 @@ module _ (k : ℕ) (c : Card) (x : Call) (w : Bytes) where
   -- a call that is no code command and hands out no signature moves nothing, whatever it answers
   other-call : (c′ : Card) (a : Answer) → codeOf c′ k ≡ codeOf c k
       → isCommand (verifies k) x ≡ false → isCommand (changes k) x ≡ false → isCommand (presents k) x ≡ false → isCommand (unblocks k) x ≡ false
-      → isCommand anyUnblocks x ≡ false → isCommand (storesPin k) x ≡ false → signature (exchangeOf x (written w c′ a)) ≡ false
+      → isCommand anyUnblocks x ≡ false → isCommand (storesPin k) x ≡ false → handsSignature (exchangeOf x (written w c′ a)) ≡ false
       → Sheet k c x (written w c′ a)
   unfolding written
   other-call c′ a e v n q u t s z = unmoved k c x (written w c′ a) (card-written c′ a ∙ e) (record {
@@ -172,7 +172,7 @@ module _ (c : Card) (s : Session) (h : Header) (d : Bytes) where
   unfolding select answerKind
   select-none =
       split NoSignature (eqb (h .p1) 0x00) (λ _. record { kind = refl })
-      (λ _. split NoSignature (eqb (h .p1) 0x01 && (eqb (s .selection .directory) root && eqb (word (byteAt d 0) (byteAt d 1)) personalDirectory)) (λ _. record { kind = refl })
+      (λ _. split NoSignature (eqb (h .p1) 0x01 && (eqb (s .selection .directory) root && eqb (word (byteAt d 0) (byteAt d 1)) esteidDirectory)) (λ _. record { kind = refl })
       (λ _. split NoSignature (eqb (h .p1) 0x02 && member (word (byteAt d 0) (byteAt d 1)) (filesIn (s .selection .directory))) (λ _. record { kind = refl }) (λ _. record { kind = refl })))
 
   readRecord-none : NoSignature (readRecord c s h)

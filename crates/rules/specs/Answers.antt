@@ -41,7 +41,7 @@ sessionStatus s sw = record { session = s; answer = response [] sw }
 unfoldable pub moreBytes : ℕ → ℕ
 moreBytes n = 0x6100 + cond (eqb n 256) 0x00 n
 
--- Data of n bytes: with Le at least n, all data and 9000; else held, answer 61 and n, no data.
+-- Data of n > 0 bytes: with Le at least n, all data and 9000; else held, answer 61 and n, no data. No bytes: 9000 alone.
 unfoldable pub give : Session → ℕ → Bytes → SessionStep
 give s le d =
     cond (leb (length d) le)

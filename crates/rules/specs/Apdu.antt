@@ -1,5 +1,5 @@
 -- Document 01, "Order of judgement for a command", step 1: the length forms of a command APDU.
-use Prim.Native.Nat.{ℕ, _+_}
+use Prim.Native.Nat.{ℕ, _+_, _-_}
 use mathlib.Core.Bool.{Bool, cond, _&&_}
 use lib.ListN.{length, take, drop}
 use lib.Dec.{eqb, leb}
@@ -26,7 +26,7 @@ parse b =
     cond (eqb (length b) 4) (Form (header b 0 0))
     (cond (eqb (length b) 5) (Form (header b 0 (leOf (byteAt b 4))))
     (cond (leb 1 (lcByte b) && eqb (length b) (5 + lcByte b)) (Form (header b (lcByte b) 0))
-    (cond (leb 1 (lcByte b) && eqb (length b) (6 + lcByte b)) (Form (header b (lcByte b) (leOf (byteAt b (5 + lcByte b)))))
+    (cond (leb 1 (lcByte b) && eqb (length b) (6 + lcByte b)) (Form (header b (lcByte b) (leOf (byteAt b (length b - 1)))))
     Malformed)))
 
 -- The command's data.

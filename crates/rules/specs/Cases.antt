@@ -1,4 +1,4 @@
--- Document 01, "Cases": P1 to P10 as one list, each from the sample card, and the theorem's statement.
+-- Document 01, "Cases": P1 to P10 as one list, P1 to P9 from the sample card, and the theorem's statement.
 use Prim.Native.Nat.{ℕ, zero, suc, _-_}
 use mathlib.Core.Path.{_≡_}
 use mathlib.Core.Bool.{Bool, true, false, cond}

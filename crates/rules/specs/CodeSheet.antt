@@ -16,7 +16,7 @@ use Rattle.rules.specs.declared.Reply.{Reply}
 use Rattle.rules.specs.declared.Reply.the-variants.{Refused, Response, HandedOut, WasReset}
 use Rattle.rules.specs.Codes.{PUK, PIN2, fullTries, value, codeOf}
 use Rattle.rules.specs.Apdu.{parse, dataOf}
-use Rattle.rules.specs.Counting.{Call, Command, Delivery, PowerReset, Exchange, step, exchangeOf, statusWord, okStatus, verifies, changes, unblocks, presentsPuk, answers, wrongAnswer, restoration, unblocking, rightVerify, signature}
+use Rattle.rules.specs.Counting.{Call, Command, Delivery, PowerReset, Exchange, step, exchangeOf, statusWord, okStatus, verifies, changes, unblocks, presentsPuk, answers, wrongAnswer, restoration, unblocking, rightVerify, handsSignature}
 
 -- 9000 to a CHANGE of code k.
 abbrev pub changed : ℕ → Exchange → Bool
@@ -44,15 +44,15 @@ wasReset WasReset = true
 unfoldable pub opens : ℕ → Exchange → Bool
 opens k e = rightVerify k e
 
--- A code is closed by a wrong answer to it, a CHANGE of it, a RESET RETRY of it (PUK: of either PIN),
--- a signature handed out (PIN2), and a power reset.
+-- A code is closed by a wrong answer to it, by 9000 to a CHANGE of it or to a RESET RETRY of it (PUK: of either PIN),
+-- by a signature handed out (PIN2), and by a power reset.
 unfoldable pub closes : ℕ → Exchange → Bool
 closes k e =
     wrongAnswer k e
     || changed k e
     || unblocking k e
     || eqb k PUK && unblocked e
-    || eqb k PIN2 && signature e
+    || eqb k PIN2 && handsSignature e
     || wasReset (e .reply)
 
 -- The mark after a call: on if the call opens the code, or if it was on and the call does not close the code.
@@ -92,7 +92,7 @@ pub record Sheet (k : ℕ) (c : Card) (x : Call) (o : Outcome × Bytes) : Type 0
   pub restored : restoration k (exchangeOf x o) ≡ true → 1 ≤ codeOf c k .tries
   pub unblocked : unblocking k (exchangeOf x o) ≡ true → codeOf c k .tries ≡ 0
   -- a signature is handed out only while PIN2 is verified
-  pub signed : signature (exchangeOf x o) ≡ true → codeOf c PIN2 .verified ≡ true
+  pub signed : handsSignature (exchangeOf x o) ≡ true → codeOf c PIN2 .verified ≡ true
 
 -- For each code, every card, good or not, and every call.
 abbrev pub CodeSheet : Type 0

@@ -26,7 +26,7 @@ least k = cond (eqb k PUK) 8 (cond (eqb k PIN1) 4 5)
 abbrev pub most : ℕ
 most = 12
 
--- The tries of a code that was last given right.
+-- The three tries that a code starts with, and that a right value or an unblocking gives back.
 abbrev pub fullTries : ℕ
 fullTries = 3
 

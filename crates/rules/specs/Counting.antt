@@ -128,8 +128,8 @@ rightVerify k = answers okStatus (verifies k)
 abbrev pub anyHeader : Header → Bool
 anyHeader h = true
 
-abbrev pub signature : Exchange → Bool
-signature e = eqb (replyKind (e .reply)) 2 && isCommand anyHeader (e .call)
+abbrev pub handsSignature : Exchange → Bool
+handsSignature e = eqb (replyKind (e .reply)) 2 && isCommand anyHeader (e .call)
 
 -- How many exchanges of a sequence pass a test.
 abbrev pub one : Bool → ℕ
@@ -149,11 +149,11 @@ restorations k = number (restoration k)
 abbrev pub unblockings : ℕ → List Exchange → ℕ
 unblockings k = number (unblocking k)
 
-abbrev pub presentations : List Exchange → ℕ
-presentations = number (rightVerify PIN2)
+abbrev pub pin2Presentations : List Exchange → ℕ
+pin2Presentations = number (rightVerify PIN2)
 
 abbrev pub signatures : List Exchange → ℕ
-signatures = number signature
+signatures = number handsSignature
 
 -- Calls that a caller can make: every number in them is a byte.
 abbrev pub ofBytes : Call → Bool

@@ -17,7 +17,7 @@ use Rattle.rules.specs.Codes.{PUK}
 use Rattle.rules.specs.State.{good}
 use Rattle.rules.specs.Edge.{refused}
 use Rattle.rules.specs.Image.{load, zeroCard, faultNumber}
-use Rattle.rules.specs.Counting.{Call, Command, Delivery, PowerReset, step, next, exchange, trace, statusWord, wrongAnswers, restorations, unblockings, signatures, presentations, ofBytes, allOfBytes, triesAtLoad}
+use Rattle.rules.specs.Counting.{Call, Command, Delivery, PowerReset, step, next, exchange, trace, statusWord, wrongAnswers, restorations, unblockings, signatures, pin2Presentations, ofBytes, allOfBytes, triesAtLoad}
 
 -- The buffer that a call brings.
 abbrev pub bufferOf : Call → Bytes
@@ -75,8 +75,8 @@ pub record Counted (image : Bytes) (c : Card) : Type 0 where
   -- the bound is met, from every loaded card with three tries on each code, for each code by itself
   pub met : ((k : ℕ) → k < 3 → triesAtLoad image k ≡ 3)
       → (k : ℕ) → k < 3 → (r u : ℕ) → (k ≡ PUK → u ≡ 0) → Reached c k r u (3 + 2 * r + 3 * u)
-  -- the signatures handed to the key host are at most the right presentations of PIN2 by VERIFY
-  pub signed : (calls : List Call) → signatures (trace c calls) ≤ presentations (trace c calls)
+  -- the signatures handed to the key host are at most the right pin2Presentations of PIN2 by VERIFY
+  pub signed : (calls : List Call) → signatures (trace c calls) ≤ pin2Presentations (trace c calls)
 
 -- Demand 3: one statement over every image that loads and any sequence of calls.
 abbrev pub Demand3 : Type 0

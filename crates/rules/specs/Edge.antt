@@ -13,6 +13,7 @@ use Rattle.rules.specs.declared.Reply.the-variants.{Refused, Response, H
 use Rattle.rules.specs.declared.Refusal.{Refusal}
 use Rattle.rules.specs.declared.Refusal.the-variants.{BadState, ShortBuffer, CertificateLength, JobWaiting, NoJobWaiting}
 use Rattle.rules.specs.Codes.{PUK, PIN1, PIN2, closed}
+use Rattle.rules.specs.Keys.{kindNumber}
 use Rattle.rules.specs.Session.{newSession, withSession}
 use Rattle.rules.specs.State.{good}
 use Rattle.rules.specs.Answers.{Answer, Step, response, job, inSession}
@@ -26,6 +27,13 @@ refusalNumber ShortBuffer = 2
 refusalNumber CertificateLength = 3
 refusalNumber JobWaiting = 4
 refusalNumber NoJobWaiting = 5
+
+-- What a call returns, in document 01's numbers: a refusal's number; a response's length; a job's kind and key; of a reset nothing.
+abbrev pub replyValues : Reply → List ℕ
+replyValues (Refused r) = refusalNumber r ∷ []
+replyValues (Response n) = n ∷ []
+replyValues (HandedOut kind key) = kindNumber kind ∷ key ∷ []
+replyValues WasReset = []
 
 -- What a call returns, and the buffer as it leaves it. An edge refusal: state and buffer stay.
 abbrev pub refused : Card → Bytes → Refusal → Outcome × Bytes

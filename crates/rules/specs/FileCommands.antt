@@ -8,7 +8,7 @@ use Rattle.octets.specs.Octets.{Bytes, byteAt, word, member}
 use Rattle.rules.specs.declared.Card.{Card}
 use Rattle.rules.specs.declared.Session.{Session}
 use Rattle.rules.specs.declared.Header.{Header}
-use Rattle.rules.specs.Session.{root, personalDirectory, noFile, heldBytes, withSelection, withHeld, dropHeld}
+use Rattle.rules.specs.Session.{root, esteidDirectory, noFile, heldBytes, withSelection, withHeld, dropHeld}
 use Rattle.rules.specs.Files.{filesIn, certificateFile, certificateOf, recordCount, recordOf}
 use Rattle.rules.specs.Answers.{SessionStep, response, sessionStatus, give, moreBytes}
 
@@ -19,7 +19,7 @@ select s h d =
     let name = word (byteAt d 0) (byteAt d 1) in
     let directory = s .selection .directory in
     cond (eqb (h .p1) 0x00) (sessionStatus (withSelection s root noFile) 0x9000)
-    (cond (eqb (h .p1) 0x01 && (eqb directory root && eqb name personalDirectory)) (sessionStatus (withSelection s personalDirectory noFile) 0x9000)
+    (cond (eqb (h .p1) 0x01 && (eqb directory root && eqb name esteidDirectory)) (sessionStatus (withSelection s esteidDirectory noFile) 0x9000)
     (cond (eqb (h .p1) 0x02 && member name (filesIn directory)) (sessionStatus (withSelection s directory name) 0x9000)
     (sessionStatus s 0x6A82)))
 

@@ -11,6 +11,7 @@ use Rattle.rules.specs.declared.Record.{Record}
 use Rattle.rules.specs.declared.Fault.{Fault}
 use Rattle.rules.specs.declared.Fault.the-variants.{EndsEarly, WrongCount, BadCode, BadKey, BadReference, RecordLength, LeftOver}
 use Rattle.rules.specs.declared.Loaded.{Loaded}
+use Rattle.rules.specs.declared.LoadResult.{LoadResult}
 use Rattle.rules.specs.declared.LoadResult.the-variants.{Accepted, Faulty}
 use Rattle.rules.specs.Codes.{PUK, PIN1, PIN2, least, most, fullTries, storing}
 use Rattle.rules.specs.Keys.{signatureKey, authenticationKey, usable, activeKey}
@@ -25,6 +26,11 @@ faultNumber BadKey = 24
 faultNumber BadReference = 25
 faultNumber RecordLength = 26
 faultNumber LeftOver = 27
+
+-- Document 01's number for each result of load; 0 stands for no fault.
+abbrev pub loadNumber : LoadResult → ℕ
+loadNumber Accepted = 0
+loadNumber (Faulty f) = faultNumber f
 
 -- What reading gives: what was read and the bytes after it, or the first fault.
 pub data Read (A : Type 0) : Type 0 where
@@ -104,8 +110,8 @@ abbrev pub keyMarks : List ℕ → List Bool
 keyMarks keys = member 0x0100 keys ∷ member 0x0200 keys ∷ member 0x1100 keys ∷ member 0x1200 keys ∷ []
 
 -- A record as length 1 to 64, bytes: 26.
-unfoldable pub readRecord : Reader Record
-readRecord = do
+unfoldable pub readPersonal : Reader Record
+readPersonal = do
   n ← byteIf (λ n. leb 1 n && leb n 64) RecordLength
   bytes ← anyBytes n
   pure (record { bytes = filled 64 bytes; len = length bytes })
@@ -113,7 +119,7 @@ readRecord = do
 unfoldable pub readRecords : ℕ → Reader (List Record)
 readRecords zero = pure []
 readRecords (suc n) = do
-  r ← readRecord
+  r ← readPersonal
   rs ← readRecords n
   pure (r ∷ rs)
 

@@ -31,7 +31,7 @@ isDecipher h = eqb (h .ins) 0x2A && eqb (h .p1) 0x80 && eqb (h .p2) 0x86
 abbrev pub badChaining : Header → Bool
 badChaining h = eqb (h .cla) 0x10 && not (isDecipher h)
 
--- 5. P1, P2, else 6A86: a row for each instruction.
+-- 5. P1, P2, else 6A86: a row for each instruction. P2 of 22 F3 is judged by the command's own rules (6A88).
 unfoldable pub goodParameters : Header → Bool
 goodParameters h =
     eqb (h .ins) 0xA4 && (leb (h .p1) 0x02 && eqb (h .p2) 0x0C)
@@ -45,7 +45,7 @@ goodParameters h =
     || eqb (h .ins) 0x88 && (eqb (h .p1) 0x00 && eqb (h .p2) 0x00)
     || eqb (h .ins) 0x2A && (eqb (h .p1) 0x9E && eqb (h .p2) 0x9A || eqb (h .p1) 0x80 && eqb (h .p2) 0x86)
 
--- Data that a command must not have, must have, must have n of; Le that it must have.
+-- Data that a command must not have, and must have; Le that it must have.
 abbrev pub noData : Header → Bool
 noData h = eqb (h .lc) 0
 

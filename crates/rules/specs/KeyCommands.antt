@@ -27,7 +27,7 @@ setEnvironment s h =
 unfoldable pub kindChosen : ℕ → ℕ
 kindChosen p2 = cond (eqb p2 0xA4) (kindNumber Authenticate) (cond (eqb p2 0xB6) (kindNumber Sign) (kindNumber Decipher))
 
--- The environment with another key choice for a job of this kind number; 0 is "active".
+-- The session with another key choice for a job of this kind number; 0 is "active".
 abbrev pub choosing : Session → ℕ → ℕ → Session
 choosing s kind key = withEnvironment s (s .environment .number) (set (s .environment .choices) (kind - 1) key)
 
@@ -53,10 +53,10 @@ internalAuthenticate c s h d =
 -- Job 2, and PIN2's mark goes off as the job is handed out (house, after userConsent 1 in 001).
 unfoldable pub sign : Card → Session → Header → Bytes → Step
 sign c s h d =
-    let refused : ℕ → Step = λ sw. status (withSession c s) sw in
-    cond (not (isDigest d)) (refused 0x6A80)
-    (cond (not (eqb (s .environment .number) 1)) (refused 0x6985)
-    (cond (not (codeOf c PIN2 .verified)) (refused 0x6982)
+    let turnedDown : ℕ → Step = λ sw. status (withSession c s) sw in
+    cond (not (isDigest d)) (turnedDown 0x6A80)
+    (cond (not (eqb (s .environment .number) 1)) (turnedDown 0x6985)
+    (cond (not (codeOf c PIN2 .verified)) (turnedDown 0x6982)
     (inSession (closed c PIN2) (handOut s Sign (keyFor c s (kindNumber Sign)) (h .le) (padded d)))))
 
 -- 2A 80 86 DECIPHER joins the chain. Over 257: 6700. Class 10h: 9000. Class 00h: total not 257, 6700; first byte not 00, 6A80;

@@ -1,13 +1,16 @@
 -- Document 01, "Cases": the sample card. PIN1 1234, PIN2 12345, PUK 12345678, 3 tries, keys 0100h and 1100h, both active,
 -- other bytes of 0033h zero, each personal record one byte 20h.
 use Prim.Native.Nat.{ℕ, zero, suc}
+use mathlib.Core.Path.{_≡_}
 use mathlib.Core.Bool.{true, false}
 use mathlib.Core.List.{List, [], _∷_, _++_}
 use lib.ListN.{replicate}
 use Rattle.octets.specs.Octets.{Bytes, blank, filled}
 use Rattle.rules.specs.declared.Card.{Card}
 use Rattle.rules.specs.Codes.{fullTries, storing}
+use Rattle.rules.specs.declared.LoadResult.the-variants.{Accepted}
 use Rattle.rules.specs.Session.{newSession}
+use Rattle.rules.specs.Image.{load}
 
 abbrev pub pin1 : Bytes
 pin1 = 0x31 ∷ 0x32 ∷ 0x33 ∷ 0x34 ∷ []
@@ -32,15 +35,19 @@ sampleCard =
       session = newSession;
     }
 
--- Sixteen personal records in an image, each as length 1 and the byte 20h.
+-- n personal records in an image, each as length 1 and the byte 20h.
 abbrev pub imageRecords : ℕ → Bytes
 imageRecords zero = []
 imageRecords (suc n) = 0x01 ∷ 0x20 ∷ imageRecords n
 
--- The image that loads as the sample card.
+-- Its image.
 unfoldable pub sampleImage : Bytes
 sampleImage =
     3 ∷ 8 ∷ (puk ++ 3 ∷ 4 ∷ (pin1 ++ 3 ∷ 5 ∷ (pin2 ++ 3 ∷ [])))
     ++ 2 ∷ 0x01 ∷ 0x00 ∷ 0x11 ∷ 0x00 ∷ []
     ++ 21 ∷ references
     ++ 16 ∷ imageRecords 16
+
+-- The image loads as the sample card.
+abbrev pub SampleLoads : Type 0
+SampleLoads = load sampleImage ≡ record { card = sampleCard; result = Accepted }

@@ -15,8 +15,8 @@ use Rattle.rules.specs.declared.Job.{Job}
 abbrev pub root : ℕ
 root = 0x3F00
 
-abbrev pub personalDirectory : ℕ
-personalDirectory = 0xEEEE
+abbrev pub esteidDirectory : ℕ
+esteidDirectory = 0xEEEE
 
 -- No current file.
 abbrev pub noFile : ℕ

@@ -16,7 +16,7 @@ use Rattle.rules.specs.declared.Chain.{Chain}
 use Rattle.rules.specs.declared.Job.{Job}
 use Rattle.rules.specs.Codes.{PUK, PIN1, PIN2, least, most, fullTries, value, codeOf}
 use Rattle.rules.specs.Keys.{usable, activeKey, choiceOf}
-use Rattle.rules.specs.Session.{root, personalDirectory, noFile}
+use Rattle.rules.specs.Session.{root, esteidDirectory, noFile}
 use Rattle.rules.specs.Files.{filesIn, noRecord}
 
 -- A string of a stated length in an array of a stated size: the length fits, and every unused place is zero.
@@ -45,7 +45,7 @@ goodReferences keys references =
     ∷ []
     )
 
--- A personal record: its bytes, and zeros in the unused places.
+-- A personal record: 0 to 64 bytes, and zeros in the unused places. That an image gives each record 1 to 64 bytes is a rule of the image.
 abbrev pub goodRecord : Record → Bool
 goodRecord r = goodRoom 64 (r .bytes) (r .len)
 
@@ -58,7 +58,7 @@ goodRecords (suc n) rs = goodRecords n rs && goodRecord (getD rs n noRecord)
 unfoldable pub goodSelection : Selection → Bool
 goodSelection s =
     every (
-    (eqb (s .directory) root || eqb (s .directory) personalDirectory)
+    (eqb (s .directory) root || eqb (s .directory) esteidDirectory)
     ∷ (eqb (s .file) noFile || member (s .file) (filesIn (s .directory)))
     ∷ []
     )

@@ -1,4 +1,4 @@
-// The card's state and what its calls answer. The rules stand in specs/, one file for each chapter of document 01.
+// The card's state and what its calls answer. The rules stand in specs/, in the order of document 01.
 ghost use mathlib.Core.Path.{_≡_};
 ghost use Rattle.rules.specs.Codes.{least};
 
@@ -17,7 +17,7 @@ impl Code {
 
     pub const PIN2: usize = 2;
 
-    // The tries of a code that was last given right.
+    // The three tries that a code starts with, and that a right value or an unblocking gives back.
     pub const TRIES: u8 = 3;
 
     // The greatest length of a code.
