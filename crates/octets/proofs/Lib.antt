@@ -1,5 +1,8 @@
-pub mod Tests
-pub mod Strings
-pub mod Words
-pub mod Lists
 pub mod Buffers
+pub mod Lists
+pub mod Loops
+pub mod Pasting
+pub mod Strings
+pub mod Tests
+pub mod Words
+pub mod Parts

@@ -1,19 +1,28 @@
 -- Laws of strings of bytes.
 use mathlib.Core.Path.{_≡_, refl, sym, ap, _∙_}
-use mathlib.Core.Bool.{Bool, true, false, _&&_}
+use mathlib.Core.Bool.{Bool, true, false, _&&_, false≢true}
 use mathlib.Core.List.{List, [], _∷_, _++_}
 use Prim.Native.Nat.{ℕ, zero, suc, _+_, _-_, _≤_}
 use native.Mathlib.Omega.{arith}
 use lib.Dec.{eqb}
 use lib.ListN.{length, take, drop, replicate, length-append, length-replicate, length-take, length-drop}
 use lib.Seq.{take-append-seam, drop-append-seam, take-all}
-use borrow.Author.Tests.{eq-eqb}
+use borrow.Author.Tests.{eq-eqb, eqb-true}
 use Rattle.octets.specs.Octets.{Bytes, same, all, allZero, blank, filled}
 use Rattle.octets.proofs.Tests.{and-left, and-right}
 
 pub same-refl : (d : Bytes) → same d d ≡ true
 same-refl [] = refl
 same-refl (x ∷ xs) = rw (eq-eqb x x refl) (same-refl xs)
+
+pub same-equal : (a b : Bytes) → same a b ≡ true → a ≡ b
+same-equal [] [] e = refl
+same-equal [] (y ∷ b) e = absurd (false≢true e)
+same-equal (x ∷ a) [] e = absurd (false≢true e)
+same-equal (x ∷ a) (y ∷ b) e =
+    let head : x ≡ y = eqb-true x y (and-left (eqb x y) (same a b) e) in
+    let tail : a ≡ b = same-equal a b (and-right (eqb x y) (same a b) e) in
+    cc
 
 pub all-append : (t : ℕ → Bool) (a b : Bytes) → all t a ≡ true → all t b ≡ true → all t (a ++ b) ≡ true
 all-append t [] b p q = q

@@ -2,7 +2,7 @@
 use Prim.Native.Nat.{ℕ, _+_, _-_, _*_}
 use mathlib.Core.Bool.{Bool, true, false, _&&_, _||_}
 use mathlib.Core.List.{List, [], _∷_, _++_}
-use lib.ListN.{length, getD, replicate}
+use lib.ListN.{length, getD, take, drop, replicate}
 use lib.Dec.{eqb, leb, ltb}
 
 -- A string of bytes.
@@ -62,3 +62,7 @@ blank n = replicate n 0
 -- A string in the first of n places, with zeros after it.
 unfoldable pub filled : ℕ → Bytes → Bytes
 filled n d = d ++ blank (n - length d)
+
+-- A string with another written into it from a place on, as much of it as fits; past the end nothing is written.
+unfoldable pub pasted : Bytes → ℕ → Bytes → Bytes
+pasted dst at src = take at dst ++ (take (length dst - at) src ++ drop (at + length src) dst)

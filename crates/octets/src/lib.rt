@@ -1,1 +1,176 @@
-// Lists of bytes: the definitions stand in specs/, their laws in proofs/.
+// Slices of bytes: what is asked of them, and what is written into them. Every function takes every input.
+// The definitions that the contracts cite stand in specs/, their laws in proofs/.
+ghost use mathlib.Core.Path.{_≡_};
+ghost use Prim.Native.Nat.{_-_, min};
+ghost use lib.ListN.{take, drop, replicate};
+ghost use Rattle.octets.specs.Octets.{word, same, allDigits, allZero, blank, filled, pasted};
+
+// Whether a and b are the same string, in bytes and in length.
+pub fn equal(a: &[u8], b: &[u8]) -> bool
+    ensures { λ r. ⌜ r ≡ same (now (a .entry)) (now (b .entry)) ⌝ }
+{
+    if a.len() != b.len() {
+        return false;
+    }
+    let mut i = 0;
+    while i < a.len() {
+        if a[i] != b[i] {
+            return false;
+        }
+        i += 1;
+    }
+    true
+}
+
+// The n bytes of s from index `from` on, or those of them that s has.
+pub fn part(s: &[u8], from: usize, n: usize) -> &[u8]
+    ensures { λ r. ⌜ now r ≡ take n (drop from (now (s .entry))) ⌝ }
+{
+    if s.len() < from {
+        return &s[..0];
+    }
+    let rest = s.len() - from;
+    if rest < n {
+        return &s[from..];
+    }
+    &s[from..from + n]
+}
+
+// Whether every byte of s is a digit, 30h to 39h.
+pub fn all_digits(s: &[u8]) -> bool
+    ensures { λ r. ⌜ r ≡ allDigits (now (s .entry)) ⌝ }
+{
+    let mut i = 0;
+    while i < s.len() {
+        let digit = (0x30 <= s[i]) & (s[i] <= 0x39);
+        if !digit {
+            return false;
+        }
+        i += 1;
+    }
+    true
+}
+
+// Whether every byte of s is zero.
+pub fn all_zero(s: &[u8]) -> bool
+    ensures { λ r. ⌜ r ≡ allZero (now (s .entry)) ⌝ }
+{
+    let mut i = 0;
+    while i < s.len() {
+        if s[i] != 0 {
+            return false;
+        }
+        i += 1;
+    }
+    true
+}
+
+// How many of n bytes fit into a slice of `len` bytes from index `at` on.
+fn fitting(len: usize, at: usize, n: usize) -> usize
+    ensures { λ r. ⌜ r ≡ min n (len - at) ⌝ }
+{
+    if len <= at {
+        return 0;
+    }
+    let room = len - at;
+    if room < n {
+        return room;
+    }
+    n
+}
+
+// Copies into dst, from index `at` on, as much of src as fits.
+pub fn copy_at(dst: &mut [u8], at: usize, src: &[u8])
+    ensures { λ _. ⌜ now (dst .exit) ≡ pasted (now (dst .entry)) at (now (src .entry)) ⌝ }
+{
+    let count = fitting(dst.len(), at, src.len());
+    let mut j = 0;
+    while j < count {
+        dst[at + j] = src[j];
+        j += 1;
+    }
+}
+
+// Writes `byte` into n places of dst, from index `at` on, or into those of them that dst has.
+pub fn fill(dst: &mut [u8], at: usize, n: usize, byte: u8)
+    ensures { λ _. ⌜ now (dst .exit) ≡ pasted (now (dst .entry)) at (replicate n byte) ⌝ }
+{
+    let count = fitting(dst.len(), at, n);
+    let mut j = 0;
+    while j < count {
+        dst[at + j] = byte;
+        j += 1;
+    }
+}
+
+// Arrays of zeros.
+pub fn blank_12() -> [u8; 12]
+    ensures { λ r. ⌜ r ≡ blank 12 ⌝ }
+{
+    [0u8; 12]
+}
+
+pub fn blank_64() -> [u8; 64]
+    ensures { λ r. ⌜ r ≡ blank 64 ⌝ }
+{
+    [0u8; 64]
+}
+
+pub fn blank_256() -> [u8; 256]
+    ensures { λ r. ⌜ r ≡ blank 256 ⌝ }
+{
+    [0u8; 256]
+}
+
+pub fn blank_257() -> [u8; 257]
+    ensures { λ r. ⌜ r ≡ blank 257 ⌝ }
+{
+    [0u8; 257]
+}
+
+// Arrays with s, or as much of it as fits, in their first places and zeros after it.
+pub fn filled_12(s: &[u8]) -> [u8; 12]
+    ensures { λ r. ⌜ r ≡ filled 12 (take 12 (now (s .entry))) ⌝ }
+{
+    let mut bytes_12 = blank_12();
+    copy_at(&mut bytes_12, 0, s);
+    bytes_12
+}
+
+pub fn filled_64(s: &[u8]) -> [u8; 64]
+    ensures { λ r. ⌜ r ≡ filled 64 (take 64 (now (s .entry))) ⌝ }
+{
+    let mut bytes_64 = blank_64();
+    copy_at(&mut bytes_64, 0, s);
+    bytes_64
+}
+
+pub fn filled_256(s: &[u8]) -> [u8; 256]
+    ensures { λ r. ⌜ r ≡ filled 256 (take 256 (now (s .entry))) ⌝ }
+{
+    let mut bytes_256 = blank_256();
+    copy_at(&mut bytes_256, 0, s);
+    bytes_256
+}
+
+pub fn filled_257(s: &[u8]) -> [u8; 257]
+    ensures { λ r. ⌜ r ≡ filled 257 (take 257 (now (s .entry))) ⌝ }
+{
+    let mut bytes_257 = blank_257();
+    copy_at(&mut bytes_257, 0, s);
+    bytes_257
+}
+
+// A byte as a wider number.
+pub fn wide(b: u8) -> usize
+    ensures { λ r. ⌜ r ≡ b ⌝ }
+{
+    b as usize
+}
+
+// Two bytes as one number, high byte first.
+pub fn word(high: u8, low: u8) -> u16
+    ensures { λ r. ⌜ r ≡ word high low ⌝ }
+{
+    (high as u16) * 256 + (low as u16)
+}

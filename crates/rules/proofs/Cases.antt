@@ -16,15 +16,20 @@ use Rattle.rules.specs.KeyCommands.{setEnvironment, kindChosen, chooseKe
 use Rattle.rules.specs.Judgement.{goodParameters, goodLengths, sessionCommand, ownRules, judgeHeader, judgeForm, judge}
 use Rattle.rules.specs.Delivery.{deliver}
 use Rattle.rules.specs.Edge.{responseIn, written, command, delivery, powerReset}
-use Rattle.rules.specs.Image.{byteIf, bytesIf, readCode, readKeys, readRecords, readCard, end, loaded, load}
+use Rattle.rules.specs.Image.{byteIf, bytesIf, readCode, readKeys, readRecords, readCard, end, zeroCard, loaded, load}
 use Rattle.rules.specs.Image as Image
 use Rattle.rules.specs.Counting.{step, replyStatus}
 use Rattle.rules.specs.Sample.{sampleCard, sampleImage, SampleLoads}
-use Rattle.rules.specs.Cases.{onSample, padding, cases, PCases}
+use Rattle.rules.specs.Cases.{onCard, loading, padding, cases, PCases}
+use Rattle.rules.specs.FurtherCases.{furtherCases, FurtherCases}
 
 pub p-cases : PCases
-unfolding cases onSample padding sampleCard step command delivery powerReset written responseIn replyStatus good goodSession goodCode goodRoom goodReferences goodRecords goodSelection goodEnvironment goodJob filesIn present ofClass activeKey keyFor newSession blank filled least allowed parse dataOf judge judgeForm judgeHeader goodParameters goodLengths ownRules sessionCommand verify change resetRetry unblockByVerifiedPuk unblockByPresentedPuk judged select readRecord readBinary getResponse give moreBytes recordCount recordOf counterRecord pinRecord pukRecord certificateOf setEnvironment kindChosen chooseKey internalAuthenticate sign decipher isDigest prefixed sha2 padded cannotPad pad deliver strip enciphered beforeZero personalRecord
+unfolding cases onCard padding sampleCard step command delivery powerReset written responseIn replyStatus good goodSession goodCode goodRoom goodReferences goodRecords goodSelection goodEnvironment goodJob filesIn present ofClass activeKey keyFor newSession blank filled least allowed parse dataOf judge judgeForm judgeHeader goodParameters goodLengths ownRules sessionCommand verify change resetRetry unblockByVerifiedPuk unblockByPresentedPuk judged select readRecord readBinary getResponse give moreBytes recordCount recordOf counterRecord pinRecord pukRecord certificateOf setEnvironment kindChosen chooseKey internalAuthenticate sign decipher isDigest prefixed sha2 padded cannotPad pad deliver strip enciphered beforeZero personalRecord
 p-cases = refl
+
+pub further-cases : FurtherCases
+unfolding furtherCases onCard padding sampleCard step command delivery powerReset written responseIn replyStatus good goodSession goodCode goodRoom goodReferences goodRecords goodSelection goodEnvironment goodJob filesIn present ofClass activeKey keyFor newSession blank filled least allowed parse dataOf judge judgeForm judgeHeader goodParameters goodLengths ownRules sessionCommand verify change resetRetry unblockByVerifiedPuk unblockByPresentedPuk judged select readRecord readBinary getResponse give moreBytes recordCount recordOf counterRecord pinRecord pukRecord certificateOf setEnvironment kindChosen chooseKey internalAuthenticate sign decipher isDigest prefixed sha2 padded cannotPad pad deliver strip enciphered beforeZero personalRecord loading load loaded readCard readCode readKeys readRecords Image.readPersonal end byteIf bytesIf sampleImage zeroCard
+further-cases = refl
 
 pub sample-loads : SampleLoads
 unfolding load loaded readCard readCode readKeys readRecords Image.readPersonal end byteIf bytesIf sampleImage sampleCard least filled blank newSession present ofClass activeKey

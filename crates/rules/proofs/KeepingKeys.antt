@@ -11,7 +11,7 @@ use Rattle.octets.specs.Octets.{Bytes, byteAt, word, same}
 use Rattle.octets.proofs.Tests.{split, and-right}
 use Rattle.octets.proofs.Buffers.{from-either}
 use Rattle.pkcs1.specs.Pkcs1.{padded, strip}
-use Rattle.pkcs1.proofs.Laws.{length-padded}
+use Rattle.pkcs1.proofs.Laws.{padded-length}
 use Rattle.rules.specs.declared.Card.{Card}
 use Rattle.rules.specs.declared.Session.{Session}
 use Rattle.rules.specs.declared.Header.{Header}
@@ -94,7 +94,7 @@ module _ (c : Card) (g : good c ≡ true) (s : Session) (gs : goodSession (c .ke
       let K : SessionStep → Type 0 = Keeps (c .keys) in
       split K (not (eqb (s .environment .number) 1)) (λ e. sessionStatus-keeps gs refl)
       (λ e. split K (not (codeOf c PIN1 .verified)) (λ e. sessionStatus-keeps gs refl)
-      (λ e. handOut-keeps c s (good-references c g) gs held chain Authenticate (h .le) (padded d) le (length-padded d short)))
+      (λ e. handOut-keeps c s (good-references c g) gs held chain Authenticate (h .le) (padded d) le (padded-length d short)))
 
   pub sign-keeps : s .chain .len ≡ 0 → KeepsCard (sign c s h d)
   unfolding sign
@@ -103,7 +103,7 @@ module _ (c : Card) (g : good c ≡ true) (s : Session) (gs : goodSession (c .ke
       split KeepsCard (not (isDigest d)) (λ e. status-keeps kept refl)
       (λ digest. split KeepsCard (not (eqb (s .environment .number) 1)) (λ e. status-keeps kept refl)
       (λ e. split KeepsCard (not (codeOf c PIN2 .verified)) (λ e. status-keeps kept refl)
-      (λ e. let block : length (padded d) ≡ 256 = length-padded d (digest-short d (not-false _ digest)) in
+      (λ e. let block : length (padded d) ≡ 256 = padded-length d (digest-short d (not-false _ digest)) in
       let job : Keeps (c .keys) _ = handOut-keeps c s (good-references c g) gs held chain Sign (h .le) (padded d) le block in
       record { card = with-session-good (closed c PIN2) (closed-good c g PIN2 (omega arith)) _ (job .session); answer = job .answer })))
 

@@ -242,5 +242,8 @@ pub images : Images
 unfolding load
 images = record {
   read = λ image e. (fresh image e .atLeast, fresh image e .atMost);
+  session = λ image e. fresh image e .session;
+  unverified = λ image e. fresh image e .unverified;
+  tries = λ image e. fresh image e .tries;
   refused = λ image f e. (refused (readCard image) f e, fault-numbers f .0, fault-numbers f .1);
 }

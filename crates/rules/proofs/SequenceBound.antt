@@ -11,7 +11,7 @@ use Rattle.rules.specs.declared.Card.{Card}
 use Rattle.rules.specs.declared.Reply.{Reply}
 use Rattle.rules.specs.declared.Reply.the-variants.{Refused, Response, HandedOut, WasReset}
 use Rattle.rules.specs.Codes.{PIN2, codeOf}
-use Rattle.rules.specs.Counting.{Call, Exchange, step, next, exchange, after, trace, statusWord, replyStatus, replyKind, isCommand, okStatus, verifies, wrongAnswer, restoration, unblocking, rightVerify, handsSignature, anyHeader, one, wrongAnswers, restorations, unblockings, signatures, pin2Presentations}
+use Rattle.rules.specs.Counting.{Call, Exchange, step, next, exchange, after, trace, statusWord, replyStatus, replyKind, byCommand, okStatus, verifies, wrongAnswer, restoration, unblocking, rightVerify, handsSignature, one, wrongAnswers, restorations, unblockings, signatures, pin2Presentations}
 use Rattle.rules.specs.CodeSheet.{Sheet, CodeSheet, opens, closes}
 use Rattle.rules.proofs.Sheet.{code-sheet}
 
@@ -45,7 +45,7 @@ job-status WasReset w e = absurd (false≢true e)
 module _ (e : Exchange) (s : handsSignature e ≡ true) where
   signature-opens : opens PIN2 e ≡ false
   unfolding opens
-  signature-opens = rw (job-status (e .reply) (e .buffer) (and-left _ (isCommand anyHeader (e .call)) s))
+  signature-opens = rw (job-status (e .reply) (e .buffer) (and-left _ (byCommand (e .call)) s))
 
   signature-closes : closes PIN2 e ≡ true
   unfolding closes
@@ -77,6 +77,6 @@ mark-run : (c : Card) (xs : List Call) → signatures (trace c xs) + one (codeOf
 mark-run c [] = omega arith
 mark-run c (x ∷ xs) = omega (arith, mark-run (next c x) xs, mark-moved c x)
 
--- signatures are at most right pin2Presentations of PIN2, from a card on which PIN2 is not verified
+-- signatures are at most right presentations of PIN2, from a card on which PIN2 is not verified
 pub signature-bound : (c : Card) (xs : List Call) → codeOf c PIN2 .verified ≡ false → signatures (trace c xs) ≤ pin2Presentations (trace c xs)
 signature-bound c xs m = omega (arith, mark-run c xs, ap one m)

@@ -1,4 +1,4 @@
--- What opens and closes a code, and what moves its retry counter: the sheet holds of every call on a good card.
+-- What opens and closes a code, and what moves its retry counter: the sheet holds of every call on every card.
 use mathlib.Core.Path.{_≡_, refl, sym, ap, _∙_}
 use mathlib.Core.Logic.{_≢_}
 use mathlib.Core.Bool.{Bool, true, false, not, cond, _&&_, _||_, or-false, and-false, and-true, false≢true}
@@ -11,7 +11,7 @@ use borrow.Author.Tests.{eqb-true, eqb-false, eq-eqb, ne-eqb, leb-true, le-leb, 
 use Rattle.octets.specs.Octets.{Bytes, byteAt, word, same, member, filled}
 use Rattle.pkcs1.specs.Pkcs1.{padded}
 use Rattle.octets.proofs.Tests.{split, by-test, either, and-left, and-right, or-cases, below-three}
-use Rattle.octets.proofs.Strings.{take-filled}
+use Rattle.octets.proofs.Strings.{take-filled, same-equal}
 use Rattle.rules.specs.declared.Card.{Card}
 use Rattle.rules.specs.declared.Code.{Code}
 use Rattle.rules.specs.declared.Header.{Header}
@@ -39,8 +39,8 @@ use Rattle.rules.specs.CodeCommands.{judged, verify, change, oldValue, n
 use Rattle.rules.specs.Judgement.{classes, instructions, badChaining, goodParameters, goodLengths, hasData, dropPending, sessionCommand, ownRules, judgeHeader, judgeForm, judge}
 use Rattle.rules.specs.Delivery.{deliver}
 use Rattle.rules.specs.Edge.{responseIn, refused, written, shortBuffer, badCertificate, jobWaits, command, delivery, powerReset}
-use Rattle.rules.specs.Counting.{Call, Command, Delivery, PowerReset, Exchange, step, exchangeOf, statusWord, replyStatus, replyKind, isCommand, formIs, okStatus, wrongStatus, verifies, changes, presentsPuk, unblocks, presents, wrongAnswer, restoration, unblocking, rightVerify, handsSignature, anyHeader}
-use Rattle.rules.specs.CodeSheet.{CodeSheet, changed, anyUnblocks, unblocked, storesPin, wasReset, opens, closes, Sheet, dataSent}
+use Rattle.rules.specs.Counting.{Call, Command, Delivery, PowerReset, Exchange, step, exchangeOf, statusWord, replyStatus, replyKind, isCommand, formIs, okStatus, wrongStatus, verifies, changes, presentsPuk, unblocks, presents, wrongAnswer, restoration, unblocking, rightVerify, byCommand, handsJob, handsSignature}
+use Rattle.rules.specs.CodeSheet.{CodeSheet, changed, anyUnblocks, anyUnblocked, byVerifiedPuk, presentedBy, presentedIn, handsPin1Job, storesPin, wasReset, opens, closes, Sheet, dataSent}
 use Rattle.rules.proofs.StatusWords.{status-read, wrong-status, wrong-not-ok}
 use Rattle.rules.proofs.Parts.{good-code, code-length, code-tries, allowed-most, code-place, code-same, code-other}
 
@@ -51,7 +51,8 @@ record Silent (k : ℕ) (e : Exchange) : Type 0 where
   changing : changed k e ≡ false
   restoring : restoration k e ≡ false
   freeing : unblocking k e ≡ false
-  closing-puk : (eqb k PUK && unblocked e) ≡ false
+  closing-puk : (eqb k PUK && anyUnblocked e) ≡ false
+  using-puk : (okStatus (statusWord e) && isCommand byVerifiedPuk (e .call)) ≡ false
   storing-pin : (okStatus (statusWord e) && isCommand (storesPin k) (e .call)) ≡ false
   signing : handsSignature e ≡ false
   resetting : wasReset (e .reply) ≡ false
@@ -59,17 +60,22 @@ record Silent (k : ℕ) (e : Exchange) : Type 0 where
 never : {A : Type 0} {t : Bool} → t ≡ false → t ≡ true → A
 never f e = absurd (false≢true (sym f ∙ e))
 
--- It leaves the sheet's line of code k blank, where the code is the same.
-unmoved : (k : ℕ) (c : Card) (x : Call) (o : Outcome × Bytes) → codeOf (o .0 .card) k ≡ codeOf c k → Silent k (exchangeOf x o) → Sheet k c x o
+-- Where the code is the same after it, the sheet holds of code k.
+unmoved : (k : ℕ) (c : Card) (x : Call) (o : Outcome × Bytes) → codeOf (o .0 .card) k ≡ codeOf c k → Silent k (exchangeOf x o)
+    → (handsPin1Job (exchangeOf x o) ≡ true → codeOf c PIN1 .verified ≡ true) → Sheet k c x o
 unfolding opens closes
-unmoved k c x o e s = record {
+unmoved k c x o e s pin1 = record {
   verified = simp (s .rightly, s .wrongly, s .changing, s .freeing, s .closing-puk, s .signing, s .resetting, and-false) (ap (λ (v : Code). v .verified) e);
   tries = simp (s .wrongly, s .restoring, s .freeing) (ap (λ (v : Code). v .tries) e);
   stored = simp (s .changing, s .storing-pin) (ap value e);
+  rightly = never (s .restoring);
+  wrongly = never (s .wrongly);
   wrong = never (s .wrongly);
   judged = never (s .wrongly);
   restored = never (s .restoring);
   unblocked = never (s .freeing);
+  pukUsed = never (s .using-puk);
+  pin1Used = pin1;
   signed = never (s .signing);
 }
 
@@ -96,14 +102,15 @@ module _ (k : ℕ) (c : Card) (x : Call) (w : Bytes) where
         restoring = rw ok;
         freeing = rw ok;
         closing-puk = rw (ok, and-false);
+        using-puk = rw ok;
         storing-pin = rw ok;
         signing = refl;
         resetting = refl;
       }
 
   refusal : (c′ : Card) (sw : ℕ) → codeOf c′ k ≡ codeOf c k → okStatus sw ≡ false → wrongStatus sw ≡ false → Sheet k c x (written w c′ (response [] sw))
-  unfolding written
-  refusal c′ sw e n m = unmoved k c x _ e (refusal-silent c′ sw n m)
+  unfolding written replyKind
+  refusal c′ sw e n m = unmoved k c x _ e (refusal-silent c′ sw n m) (never refl)
 
   -- an edge refusal moves nothing
   edge-refusal : (r : Refusal) → Sheet k c x (refused c w r)
@@ -115,10 +122,11 @@ module _ (k : ℕ) (c : Card) (x : Call) (w : Bytes) where
     restoring = refl;
     freeing = refl;
     closing-puk = and-false (eqb k PUK);
+    using-puk = refl;
     storing-pin = refl;
     signing = refl;
     resetting = refl;
-  })
+  }) (never refl)
 
   card-written : (c′ : Card) (a : Answer) → codeOf (written w c′ a .0 .card) k ≡ codeOf c′ k
   unfolding written
@@ -134,20 +142,22 @@ module _ (k : ℕ) (c : Card) (x : Call) (w : Bytes) where
   -- a call that is no code command and hands out no signature moves nothing, whatever it answers
   other-call : (c′ : Card) (a : Answer) → codeOf c′ k ≡ codeOf c k
       → isCommand (verifies k) x ≡ false → isCommand (changes k) x ≡ false → isCommand (presents k) x ≡ false → isCommand (unblocks k) x ≡ false
-      → isCommand anyUnblocks x ≡ false → isCommand (storesPin k) x ≡ false → handsSignature (exchangeOf x (written w c′ a)) ≡ false
+      → isCommand anyUnblocks x ≡ false → isCommand byVerifiedPuk x ≡ false → isCommand (storesPin k) x ≡ false
+      → handsSignature (exchangeOf x (written w c′ a)) ≡ false → (handsPin1Job (exchangeOf x (written w c′ a)) ≡ true → codeOf c PIN1 .verified ≡ true)
       → Sheet k c x (written w c′ a)
   unfolding written
-  other-call c′ a e v n q u t s z = unmoved k c x (written w c′ a) (card-written c′ a ∙ e) (record {
+  other-call c′ a e v n q u t p s z pin1 = unmoved k c x (written w c′ a) (card-written c′ a ∙ e) (record {
     rightly = rw (v, and-false);
     wrongly = rw (q, and-false);
     changing = rw (n, and-false);
     restoring = rw (q, and-false);
     freeing = rw (u, and-false);
     closing-puk = rw (t, and-false, and-false);
+    using-puk = rw (p, and-false);
     storing-pin = rw (s, and-false);
     signing = z;
     resetting = answer-reset c′ a;
-  })
+  }) pin1
 
 -- The kind of job that an answer hands out; 0 where it is a response.
 answerKind : Answer → ℕ
@@ -159,81 +169,89 @@ unfolding written replyKind answerKind
 kind-written w c (response d sw) = refl
 kind-written w c (job kind key block) = refl
 
--- The commands that change nothing but the session hand out no signature.
-record NoSignature (o : SessionStep) : Type 0 where
-  kind : eqb (answerKind (o .answer)) 2 ≡ false
+-- The commands that change nothing but the session hand out no signature, and another job only while PIN1 is verified.
+record Permitted (c : Card) (o : SessionStep) : Type 0 where
+  unsigned : eqb (answerKind (o .answer)) 2 ≡ false
+  verified : (eqb (answerKind (o .answer)) 1 || eqb (answerKind (o .answer)) 3) ≡ true → codeOf c PIN1 .verified ≡ true
 
-give-none : (s : Session) (le : ℕ) (d : Bytes) → NoSignature (give s le d)
-unfolding give answerKind
-give-none s le d = split NoSignature (leb (length d) le) (λ _. record { kind = refl }) (λ _. record { kind = refl })
+-- A response is.
+responds : (c : Card) (s : Session) (d : Bytes) (sw : ℕ) → Permitted c (record { session = s; answer = response d sw })
+unfolding answerKind
+responds c s d sw = record { unsigned = refl; verified = never refl }
+
+give-none : (c : Card) (s : Session) (le : ℕ) (d : Bytes) → Permitted c (give s le d)
+unfolding give
+give-none c s le d = split (Permitted c) (leb (length d) le) (λ _. responds c _ _ _) (λ _. responds c _ _ _)
 
 module _ (c : Card) (s : Session) (h : Header) (d : Bytes) where
-  select-none : NoSignature (select s h d)
+  select-none : Permitted c (select s h d)
   unfolding select answerKind
   select-none =
-      split NoSignature (eqb (h .p1) 0x00) (λ _. record { kind = refl })
-      (λ _. split NoSignature (eqb (h .p1) 0x01 && (eqb (s .selection .directory) root && eqb (word (byteAt d 0) (byteAt d 1)) esteidDirectory)) (λ _. record { kind = refl })
-      (λ _. split NoSignature (eqb (h .p1) 0x02 && member (word (byteAt d 0) (byteAt d 1)) (filesIn (s .selection .directory))) (λ _. record { kind = refl }) (λ _. record { kind = refl })))
+      split (Permitted c) (eqb (h .p1) 0x00) (λ _. responds c _ _ _)
+      (λ _. split (Permitted c) (eqb (h .p1) 0x01 && (eqb (s .selection .directory) root && eqb (word (byteAt d 0) (byteAt d 1)) esteidDirectory)) (λ _. responds c _ _ _)
+      (λ _. split (Permitted c) (eqb (h .p1) 0x02 && member (word (byteAt d 0) (byteAt d 1)) (filesIn (s .selection .directory))) (λ _. responds c _ _ _) (λ _. responds c _ _ _)))
 
-  readRecord-none : NoSignature (readRecord c s h)
+  readRecord-none : Permitted c (readRecord c s h)
   unfolding readRecord answerKind
   readRecord-none =
-      split NoSignature (eqb (s .selection .file) noFile) (λ _. record { kind = refl })
-      (λ _. split NoSignature (certificateFile (s .selection .file)) (λ _. record { kind = refl })
-      (λ _. split NoSignature (ltb (recordCount (s .selection .file)) (h .p1)) (λ _. record { kind = refl }) (λ _. give-none s (h .le) _)))
+      split (Permitted c) (eqb (s .selection .file) noFile) (λ _. responds c _ _ _)
+      (λ _. split (Permitted c) (certificateFile (s .selection .file)) (λ _. responds c _ _ _)
+      (λ _. split (Permitted c) (ltb (recordCount (s .selection .file)) (h .p1)) (λ _. responds c _ _ _) (λ _. give-none c s (h .le) _)))
 
-  readBinary-none : (authentication signature : Bytes) → NoSignature (readBinary s h authentication signature)
+  readBinary-none : (authentication signature : Bytes) → Permitted c (readBinary s h authentication signature)
   unfolding readBinary answerKind
   readBinary-none authentication signature =
-      split NoSignature (eqb (s .selection .file) noFile) (λ _. record { kind = refl })
-      (λ _. split NoSignature (not (certificateFile (s .selection .file))) (λ _. record { kind = refl })
-      (λ _. split NoSignature (leb (length (certificateOf (s .selection .file) authentication signature)) (word (h .p1) (h .p2))) (λ _. record { kind = refl }) (λ _. record { kind = refl })))
+      split (Permitted c) (eqb (s .selection .file) noFile) (λ _. responds c _ _ _)
+      (λ _. split (Permitted c) (not (certificateFile (s .selection .file))) (λ _. responds c _ _ _)
+      (λ _. split (Permitted c) (leb (length (certificateOf (s .selection .file) authentication signature)) (word (h .p1) (h .p2))) (λ _. responds c _ _ _) (λ _. responds c _ _ _)))
 
-  getResponse-none : NoSignature (getResponse s h)
+  getResponse-none : Permitted c (getResponse s h)
   unfolding getResponse answerKind
   getResponse-none =
-      split NoSignature (eqb (length (heldBytes s)) 0) (λ _. record { kind = refl })
-      (λ _. split NoSignature (leb (length (heldBytes s)) (h .le)) (λ _. record { kind = refl }) (λ _. record { kind = refl }))
+      split (Permitted c) (eqb (length (heldBytes s)) 0) (λ _. responds c _ _ _)
+      (λ _. split (Permitted c) (leb (length (heldBytes s)) (h .le)) (λ _. responds c _ _ _) (λ _. responds c _ _ _))
 
-  setEnvironment-none : NoSignature (setEnvironment s h)
+  setEnvironment-none : Permitted c (setEnvironment s h)
   unfolding setEnvironment answerKind
   setEnvironment-none =
-      split NoSignature (eqb (h .p2) 1 || eqb (h .p2) 6) (λ _. record { kind = refl }) (λ _. record { kind = refl })
+      split (Permitted c) (eqb (h .p2) 1 || eqb (h .p2) 6) (λ _. responds c _ _ _) (λ _. responds c _ _ _)
 
-  chooseKey-none : NoSignature (chooseKey c s h d)
+  chooseKey-none : Permitted c (chooseKey c s h d)
   unfolding chooseKey answerKind
   chooseKey-none =
-      split NoSignature (same d (0x83 ∷ 0x00 ∷ [])) (λ _. record { kind = refl })
-      (λ _. split NoSignature (not (eqb (length d) 5 && same (take 3 d) (0x83 ∷ 0x03 ∷ 0x80 ∷ []))) (λ _. record { kind = refl })
-      (λ _. split NoSignature (not (ofClass (kindChosen (h .p2)) (word (byteAt d 3) (byteAt d 4)))) (λ _. record { kind = refl })
-      (λ _. split NoSignature (not (present (c .keys) (word (byteAt d 3) (byteAt d 4)))) (λ _. record { kind = refl }) (λ _. record { kind = refl }))))
+      split (Permitted c) (same d (0x83 ∷ 0x00 ∷ [])) (λ _. responds c _ _ _)
+      (λ _. split (Permitted c) (not (eqb (length d) 5 && same (take 3 d) (0x83 ∷ 0x03 ∷ 0x80 ∷ []))) (λ _. responds c _ _ _)
+      (λ _. split (Permitted c) (not (ofClass (kindChosen (h .p2)) (word (byteAt d 3) (byteAt d 4)))) (λ _. responds c _ _ _)
+      (λ _. split (Permitted c) (not (present (c .keys) (word (byteAt d 3) (byteAt d 4)))) (λ _. responds c _ _ _) (λ _. responds c _ _ _))))
 
-  authenticate-none : NoSignature (internalAuthenticate c s h d)
+  authenticate-none : Permitted c (internalAuthenticate c s h d)
   unfolding internalAuthenticate answerKind
   authenticate-none =
-      split NoSignature (not (eqb (s .environment .number) 1)) (λ _. record { kind = refl })
-      (λ _. split NoSignature (not (codeOf c PIN1 .verified)) (λ _. record { kind = refl }) (λ _. record { kind = refl }))
+      split (Permitted c) (not (eqb (s .environment .number) 1)) (λ _. responds c _ _ _)
+      (λ _. split (Permitted c) (not (codeOf c PIN1 .verified)) (λ _. responds c _ _ _)
+      (λ given. record { unsigned = refl; verified = λ _. not-false _ given }))
 
-  decipher-none : NoSignature (decipher c s h d)
+  decipher-none : Permitted c (decipher c s h d)
   unfolding decipher answerKind
   decipher-none =
-      split NoSignature (ltb 257 (length (chainBytes s ++ d))) (λ _. record { kind = refl })
-      (λ _. split NoSignature (eqb (h .cla) 0x10) (λ _. record { kind = refl })
-      (λ _. split NoSignature (not (eqb (length (chainBytes s ++ d)) 257)) (λ _. record { kind = refl })
-      (λ _. split NoSignature (not (eqb (byteAt (chainBytes s ++ d) 0) 0x00)) (λ _. record { kind = refl })
-      (λ _. split NoSignature (not (eqb (s .environment .number) 6)) (λ _. record { kind = refl })
-      (λ _. split NoSignature (not (codeOf c PIN1 .verified)) (λ _. record { kind = refl }) (λ _. record { kind = refl }))))))
+      split (Permitted c) (ltb 257 (length (chainBytes s ++ d))) (λ _. responds c _ _ _)
+      (λ _. split (Permitted c) (eqb (h .cla) 0x10) (λ _. responds c _ _ _)
+      (λ _. split (Permitted c) (not (eqb (length (chainBytes s ++ d)) 257)) (λ _. responds c _ _ _)
+      (λ _. split (Permitted c) (not (eqb (byteAt (chainBytes s ++ d) 0) 0x00)) (λ _. responds c _ _ _)
+      (λ _. split (Permitted c) (not (eqb (s .environment .number) 6)) (λ _. responds c _ _ _)
+      (λ _. split (Permitted c) (not (codeOf c PIN1 .verified)) (λ _. responds c _ _ _)
+      (λ given. record { unsigned = refl; verified = λ _. not-false _ given }))))))
 
-session-none : (c : Card) (h : Header) (d authentication signature : Bytes) → NoSignature (sessionCommand c h d authentication signature)
+session-none : (c : Card) (h : Header) (d authentication signature : Bytes) → Permitted c (sessionCommand c h d authentication signature)
 unfolding sessionCommand
 session-none c h d authentication signature =
-    split NoSignature (eqb (h .ins) 0xA4) (λ _. select-none c _ h d)
-    (λ _. split NoSignature (eqb (h .ins) 0xB2) (λ _. readRecord-none c _ h d)
-    (λ _. split NoSignature (eqb (h .ins) 0xB0) (λ _. readBinary-none c _ h d authentication signature)
-    (λ _. split NoSignature (eqb (h .ins) 0xC0) (λ _. getResponse-none c _ h d)
-    (λ _. split NoSignature (eqb (h .ins) 0x22 && eqb (h .p1) 0xF3) (λ _. setEnvironment-none c _ h d)
-    (λ _. split NoSignature (eqb (h .ins) 0x22) (λ _. chooseKey-none c _ h d)
-    (λ _. split NoSignature (eqb (h .ins) 0x88) (λ _. authenticate-none c _ h d) (λ _. decipher-none c _ h d)))))))
+    split (Permitted c) (eqb (h .ins) 0xA4) (λ _. select-none c _ h d)
+    (λ _. split (Permitted c) (eqb (h .ins) 0xB2) (λ _. readRecord-none c _ h d)
+    (λ _. split (Permitted c) (eqb (h .ins) 0xB0) (λ _. readBinary-none c _ h d authentication signature)
+    (λ _. split (Permitted c) (eqb (h .ins) 0xC0) (λ _. getResponse-none c _ h d)
+    (λ _. split (Permitted c) (eqb (h .ins) 0x22 && eqb (h .p1) 0xF3) (λ _. setEnvironment-none c _ h d)
+    (λ _. split (Permitted c) (eqb (h .ins) 0x22) (λ _. chooseKey-none c _ h d)
+    (λ _. split (Permitted c) (eqb (h .ins) 0x88) (λ _. authenticate-none c _ h d) (λ _. decipher-none c _ h d)))))))
 
 -- What steps 5 and 6 leave of the header of a code command.
 module _ (h : Header) where
@@ -296,6 +314,9 @@ module _ (k : ℕ) (h3 : k < 3) (c : Card) (g : good c ≡ true) (b auth sig w :
   sent : dataSent x ≡ dataOf b h
   sent = rw p
 
+  shown : (stored : Bytes) → presentedIn stored x ≡ presentedBy h stored (dataOf b h)
+  shown stored = rw p
+
   -- the tests of an exchange that a status word ended, by the header
   answered : (c′ : Card) (sw : ℕ) (st : ℕ → Bool) (t : Header → Bool) → (st (statusWord (E k c x w c′ sw)) && isCommand t x) ≡ (st sw && t h)
   answered c′ sw st t = rw (told k c x w c′ sw, asked t)
@@ -307,19 +328,25 @@ module _ (k : ℕ) (h3 : k < 3) (c : Card) (g : good c ≡ true) (b auth sig w :
       → value (codeOf c′ k) ≡ cond (changes k h) (drop (length (value (codeOf c k))) (dataOf b h))
       (cond (storesPin k h) (drop (length (value (codeOf c PUK))) (dataOf b h)) (value (codeOf c k)))
       → (presents k h ≡ true → 1 ≤ codeOf c k .tries) → (unblocks k h ≡ true → codeOf c k .tries ≡ 0)
+      → (presents k h ≡ true → same (presentedBy h (value (codeOf c k)) (dataOf b h)) (value (codeOf c k)) ≡ true)
+      → (byVerifiedPuk h ≡ true → codeOf c PUK .verified ≡ true)
       → S (status c′ 0x9000)
   unfolding written replyKind wasReset opens closes
-  accepted c′ m t v some none =
+  accepted c′ m t v some none right puk =
       let ok : (t : Header → Bool) → (okStatus (statusWord (E k c x w c′ 0x9000)) && isCommand t x) ≡ t h = λ t. unfold okStatus in answered c′ 0x9000 okStatus t in
       let wr : (wrongStatus (statusWord (E k c x w c′ 0x9000)) && isCommand (presents k) x) ≡ false = unfold wrongStatus in answered c′ 0x9000 wrongStatus (presents k) in
       record {
         verified = simp (ok (verifies k), ok (changes k), ok (unblocks k), ok anyUnblocks, wr, or-false, and-false) m;
         tries = simp (ok (presents k), ok (unblocks k), wr) t;
         stored = simp (ok (changes k), ok (storesPin k), sent) v;
+        rightly = λ e. shown (value (codeOf c k)) ∙ same-equal _ _ (right (sym (ok (presents k)) ∙ e));
+        wrongly = never wr;
         wrong = never wr;
         judged = never wr;
         restored = λ e. some (sym (ok (presents k)) ∙ e);
         unblocked = λ e. none (sym (ok (unblocks k)) ∙ e);
+        pukUsed = λ e. puk (sym (ok byVerifiedPuk) ∙ e);
+        pin1Used = never refl;
         signed = never refl;
       }
 
@@ -329,19 +356,24 @@ module _ (k : ℕ) (h3 : k < 3) (c : Card) (g : good c ≡ true) (b auth sig w :
       → codeOf c′ k .tries ≡ cond (presents k h) (codeOf c k .tries - 1) (codeOf c k .tries)
       → value (codeOf c′ k) ≡ value (codeOf c k)
       → (presents k h ≡ true → t ≡ codeOf c′ k .tries) → (presents k h ≡ true → 1 ≤ codeOf c k .tries)
+      → (presents k h ≡ true → same (presentedBy h (value (codeOf c k)) (dataOf b h)) (value (codeOf c k)) ≡ false)
       → S (status c′ (0x63C0 + t))
   unfolding written replyKind wasReset opens closes
-  mistaken c′ t l m s v left some =
+  mistaken c′ t l m s v left some wrong-value =
       let wr : (wrongStatus (statusWord (E k c x w c′ (0x63C0 + t))) && isCommand (presents k) x) ≡ presents k h = answered c′ (0x63C0 + t) wrongStatus (presents k) ∙ ap (λ (q : Bool). q && presents k h) (wrong-status t l) in
       let ok : (t′ : Header → Bool) → (okStatus (statusWord (E k c x w c′ (0x63C0 + t))) && isCommand t′ x) ≡ false = λ t′. answered c′ (0x63C0 + t) okStatus t′ ∙ ap (λ (q : Bool). q && t′ h) (wrong-not-ok t l) in
       record {
         verified = simp (ok (verifies k), ok (changes k), ok (unblocks k), ok anyUnblocks, wr, or-false, and-false) m;
         tries = simp (ok (presents k), ok (unblocks k), wr) s;
         stored = simp (ok (changes k), ok (storesPin k)) v;
+        rightly = never (ok (presents k));
+        wrongly = λ e. ap (λ (d : Bytes). same d (value (codeOf c k))) (shown (value (codeOf c k))) ∙ wrong-value (sym wr ∙ e);
         wrong = λ e. told k c x w c′ (0x63C0 + t) ∙ ap (λ (n : ℕ). 0x63C0 + n) (left (sym wr ∙ e));
         judged = λ e. some (sym wr ∙ e);
         restored = never (ok (presents k));
         unblocked = never (ok (unblocks k));
+        pukUsed = never (ok byVerifiedPuk);
+        pin1Used = never refl;
         signed = never refl;
       }
 
@@ -358,15 +390,17 @@ module _ (k : ℕ) (h3 : k < 3) (c : Card) (g : good c ≡ true) (b auth sig w :
 
   -- A value judged for code j, which is the code that the header presents a value for.
   judged-sheet : (j : ℕ) → j < 3 → (d : Bytes) (ifRight : Step) → presents j h ≡ true → ((i : ℕ) → i ≢ j → presents i h ≡ false)
-      → (1 ≤ codeOf c j .tries → S ifRight) → S (judged (dropPending c) j d ifRight)
+      → d ≡ presentedBy h (value (codeOf c j)) (dataOf b h)
+      → (1 ≤ codeOf c j .tries → same (presentedBy h (value (codeOf c j)) (dataOf b h)) (value (codeOf c j)) ≡ true → S ifRight)
+      → S (judged (dropPending c) j d ifRight)
   unfolding judged
-  judged-sheet j q d ifRight this none right =
+  judged-sheet j q d ifRight this none whole right =
       let t = codeOf c j .tries in
       let v : Code = marked (codeOf c j) (t - 1) false in
       let c′ : Card = withCode (dropPending c) j v in
       split S (eqb t 0) (λ e. unfold okStatus wrongStatus in turned-down 0x6983 refl refl) (λ z.
       let some : 1 ≤ t = omega (arith, eqb-false t 0 z) in
-      split S (same d (value (codeOf c j))) (λ e. right some) (λ _.
+      split S (same d (value (codeOf c j))) (λ e. right some (rw whole at e)) (λ other.
       let few : t - 1 ≤ 15 = omega (arith, code-tries j (codeOf c j) (good-code c g j q)) in
       either (S (status c′ (0x63C0 + (t - 1)))) k j
       (λ e.
@@ -377,7 +411,8 @@ module _ (k : ℕ) (h3 : k < 3) (c : Card) (g : good c ≡ true) (b auth sig w :
       (ap (λ (v : Code). v .tries) now ∙ rw (this-k, e))
       (ap value now ∙ rw e)
       (λ _. sym (ap (λ (v : Code). v .tries) now))
-      (λ _. rw e some))
+      (λ _. rw e some)
+      (λ _. rw e (rw whole at other)))
       (λ n.
       let now : codeOf c′ k ≡ codeOf c k = beside (dropPending c) j v q refl n in
       let none-k : presents k h ≡ false = none k n in
@@ -385,6 +420,7 @@ module _ (k : ℕ) (h3 : k < 3) (c : Card) (g : good c ≡ true) (b auth sig w :
       (ap (λ (v : Code). v .verified) now ∙ rw none-k)
       (ap (λ (v : Code). v .tries) now ∙ rw none-k)
       (ap value now)
+      (never none-k)
       (never none-k)
       (never none-k))))
 
@@ -407,7 +443,8 @@ module _ (k : ℕ) (h3 : k < 3) (c : Card) (g : good c ≡ true) (b auth sig w :
         judged-sheet j (omega arith) (dataOf b h) (status c′ 0x9000)
         (verify-presents j ∙ eq-eqb j j refl)
         (λ m n. verify-presents m ∙ ne-eqb j m (λ e. n (sym e)))
-        (λ some. either (S (status c′ 0x9000)) k j
+        (rw i)
+        (λ some right. either (S (status c′ 0x9000)) k j
         (λ e.
         let now : codeOf c′ k ≡ v = replaced (dropPending c) j v (omega arith) refl e in
         let it : eqb j k ≡ true = eq-eqb j k (sym e) in
@@ -416,7 +453,9 @@ module _ (k : ℕ) (h3 : k < 3) (c : Card) (g : good c ≡ true) (b auth sig w :
         (ap (λ (v : Code). v .tries) now ∙ rw (verify-presents k, it))
         (ap value now ∙ rw (changes-no k h (rw i), unblocks-no k h (rw i), e))
         (λ _. rw e some)
-        (never (unblocks-no k h (rw i))))
+        (never (unblocks-no k h (rw i)))
+        (λ _. rw e right)
+        (never (rw i)))
         (λ n.
         let now : codeOf c′ k ≡ codeOf c k = beside (dropPending c) j v (omega arith) refl n in
         let other : eqb j k ≡ false = ne-eqb j k (λ e. n (sym e)) in
@@ -425,7 +464,9 @@ module _ (k : ℕ) (h3 : k < 3) (c : Card) (g : good c ≡ true) (b auth sig w :
         (ap (λ (v : Code). v .tries) now ∙ rw (verify-presents k, other, unblocks-no k h (rw i)))
         (ap value now ∙ rw (changes-no k h (rw i), unblocks-no k h (rw i)))
         (never (verify-presents k ∙ other))
-        (never (unblocks-no k h (rw i)))))
+        (never (unblocks-no k h (rw i)))
+        (never (verify-presents k ∙ other))
+        (never (rw i))))
 
   -- 24 CHANGE
   module _ (i : h .ins ≡ 0x24) (few : h .p2 ≤ 2) where
@@ -448,7 +489,8 @@ module _ (k : ℕ) (h3 : k < 3) (c : Card) (g : good c ≡ true) (b auth sig w :
         judged-sheet j (omega arith) _ _
         (change-presents j ∙ eq-eqb j j refl)
         (λ m n. change-presents m ∙ ne-eqb j m (λ e. n (sym e)))
-        (λ some. split S (not (allowed j new)) (λ _. unfold okStatus wrongStatus in turned-down 0x6A80 refl refl)
+        (rw (i, code-length j (codeOf c j) (good-code c g j (omega arith))))
+        (λ some right. split S (not (allowed j new)) (λ _. unfold okStatus wrongStatus in turned-down 0x6A80 refl refl)
         (λ a. either (S (status c′ 0x9000)) k j
         (λ e.
         let now : codeOf c′ k ≡ v = replaced (dropPending c) j v (omega arith) refl e in
@@ -459,7 +501,9 @@ module _ (k : ℕ) (h3 : k < 3) (c : Card) (g : good c ≡ true) (b auth sig w :
         (ap value now ∙ take-filled 12 new (allowed-most j new (not-false _ a))
         ∙ rw (change-tests k, it, e, code-length j (codeOf c j) (good-code c g j (omega arith))))
         (λ _. rw e some)
-        (never free-k))
+        (never free-k)
+        (λ _. rw e right)
+        (never (rw i)))
         (λ n.
         let now : codeOf c′ k ≡ codeOf c k = beside (dropPending c) j v (omega arith) refl n in
         let other : eqb j k ≡ false = ne-eqb j k (λ e. n (sym e)) in
@@ -468,7 +512,9 @@ module _ (k : ℕ) (h3 : k < 3) (c : Card) (g : good c ≡ true) (b auth sig w :
         (ap (λ (v : Code). v .tries) now ∙ rw (change-presents k, other, free-k))
         (ap value now ∙ rw (change-tests k, other, free-k))
         (never (change-presents k ∙ other))
-        (never free-k))))
+        (never free-k)
+        (never (change-presents k ∙ other))
+        (never (rw i)))))
 
   -- 2C RESET RETRY
   module _ (i : h .ins ≡ 0x2C) (pin : 1 ≤ h .p2) (few : h .p2 ≤ 2) where
@@ -484,7 +530,8 @@ module _ (k : ℕ) (h3 : k < 3) (c : Card) (g : good c ≡ true) (b auth sig w :
     pin-unblocks q m = simp (i, q)
 
     -- the marks of the PIN and of PUK after 9000, the mark of the other PIN
-    module _ (q : (eqb (h .p1) 0x00 || eqb (h .p1) 0x03) ≡ true) (blocked : codeOf c j .tries ≡ 0) (c′ : Card) where
+    module _ (q : (eqb (h .p1) 0x00 || eqb (h .p1) 0x03) ≡ true) (blocked : codeOf c j .tries ≡ 0)
+        (puk : byVerifiedPuk h ≡ true → codeOf c PUK .verified ≡ true) (c′ : Card) where
       -- the PIN
       pin-done : k ≡ j → codeOf c′ k .verified ≡ false → codeOf c′ k .tries ≡ 3
           → value (codeOf c′ k) ≡ cond (eqb (h .p1) 0x00) (drop (length (value (codeOf c PUK))) (dataOf b h)) (value (codeOf c k))
@@ -499,11 +546,14 @@ module _ (k : ℕ) (h3 : k < 3) (c : Card) (g : good c ≡ true) (b auth sig w :
           (v ∙ rw (changes-no k h (rw i), frees, i))
           (never not-puk)
           (λ _. rw e blocked)
+          (never not-puk)
+          puk
 
       -- PUK
       puk-done : k ≡ PUK → codeOf c′ k .verified ≡ false → codeOf c′ k .tries ≡ cond (eqb (h .p1) 0x00) 3 (codeOf c k .tries)
-          → value (codeOf c′ k) ≡ value (codeOf c k) → (eqb (h .p1) 0x00 ≡ true → 1 ≤ codeOf c k .tries) → S (status c′ 0x9000)
-      puk-done e m t v some =
+          → value (codeOf c′ k) ≡ value (codeOf c k) → (eqb (h .p1) 0x00 ≡ true → 1 ≤ codeOf c k .tries)
+          → (eqb (h .p1) 0x00 ≡ true → same (presentedBy h (value (codeOf c k)) (dataOf b h)) (value (codeOf c k)) ≡ true) → S (status c′ 0x9000)
+      puk-done e m t v some right =
           let frees : unblocks k h ≡ false = pin-unblocks q k ∙ rw (lt-leb 1 k (omega arith), and-false) in
           let this : eqb k PUK ≡ true = eq-eqb k PUK e in
           accepted c′
@@ -512,6 +562,8 @@ module _ (k : ℕ) (h3 : k < 3) (c : Card) (g : good c ≡ true) (b auth sig w :
           (v ∙ rw (changes-no k h (rw i), frees))
           (λ z. some (sym (puk-presents k ∙ rw this) ∙ z))
           (never frees)
+          (λ z. right (sym (puk-presents k ∙ rw this) ∙ z))
+          puk
 
       -- the other PIN
       other-done : k ≢ j → k ≢ PUK → codeOf c′ k ≡ codeOf c k → S (status c′ 0x9000)
@@ -524,6 +576,8 @@ module _ (k : ℕ) (h3 : k < 3) (c : Card) (g : good c ≡ true) (b auth sig w :
           (ap value now ∙ rw (changes-no k h (rw i), frees))
           (never not-puk)
           (never frees)
+          (never not-puk)
+          puk
 
       unblocked-done : (k ≡ j → S (status c′ 0x9000)) → (k ≡ PUK → S (status c′ 0x9000)) → (k ≢ j → k ≢ PUK → codeOf c′ k ≡ codeOf c k) → S (status c′ 0x9000)
       unblocked-done f u n = either _ k j f (λ a. either _ k PUK u (λ m. other-done a m (n a m)))
@@ -538,16 +592,17 @@ module _ (k : ℕ) (h3 : k < 3) (c : Card) (g : good c ≡ true) (b auth sig w :
         let c₂ : Card = withCode c₁ PUK u in
         let one-set : length (c₁ .codes) ≡ length (c .codes) = length-set (c .codes) j v in
         let puk-kept : codeOf c₁ PUK ≡ codeOf c PUK = code-other (c .codes) j v (code-place c g j (omega arith)) PUK (omega arith) in
-        let done = unblocked-done (rw q) blocked c₂ in
         split S (not (codeOf c PUK .verified)) (λ _. unfold okStatus wrongStatus in turned-down 0x6982 refl refl)
-        (λ _. done
+        (λ given.
+        let puk-shown : byVerifiedPuk h ≡ true → codeOf c PUK .verified ≡ true = λ _. not-false _ given in
+        unblocked-done (rw q) blocked puk-shown c₂
         (λ e.
         let now : codeOf c₂ k ≡ v = beside c₁ PUK u (omega arith) one-set (omega arith) ∙ replaced (dropPending c) j v (omega arith) refl e in
-        pin-done (rw q) blocked c₂ e (ap (λ (v : Code). v .verified) now) (ap (λ (v : Code). v .tries) now) (ap value now ∙ rw (q, e)))
+        pin-done (rw q) blocked puk-shown c₂ e (ap (λ (v : Code). v .verified) now) (ap (λ (v : Code). v .tries) now) (ap value now ∙ rw (q, e)))
         (λ e.
         let now : codeOf c₂ k ≡ u = replaced c₁ PUK u (omega arith) one-set e in
-        puk-done (rw q) blocked c₂ e (ap (λ (v : Code). v .verified) now)
-        (ap (λ (v : Code). v .tries) now ∙ rw (puk-kept, q, e)) (ap value now ∙ ap value puk-kept ∙ rw e) (never (rw q)))
+        puk-done (rw q) blocked puk-shown c₂ e (ap (λ (v : Code). v .verified) now)
+        (ap (λ (v : Code). v .tries) now ∙ rw (puk-kept, q, e)) (ap value now ∙ ap value puk-kept ∙ rw e) (never (rw q)) (never (rw q)))
         (λ n m. beside c₁ PUK u (omega arith) one-set m ∙ beside (dropPending c) j v (omega arith) refl n))
 
     -- P1 00
@@ -560,19 +615,21 @@ module _ (k : ℕ) (h3 : k < 3) (c : Card) (g : good c ≡ true) (b auth sig w :
         let u : Code = marked (codeOf c PUK) 3 false in
         let c₂ : Card = withCode c₁ PUK u in
         let one-set : length (c₁ .codes) ≡ length (c .codes) = length-set (c .codes) j v in
-        let done = unblocked-done (rw q) blocked c₂ in
+        let puk-shown : byVerifiedPuk h ≡ true → codeOf c PUK .verified ≡ true = never (rw (i, q)) in
+        let done = unblocked-done (rw q) blocked puk-shown c₂ in
         judged-sheet PUK (omega arith) _ _
         (puk-presents PUK ∙ rw q)
         (λ m n. puk-presents m ∙ rw (ne-eqb m PUK n))
-        (λ some. split S (not (allowed j new)) (λ _. unfold okStatus wrongStatus in turned-down 0x6A80 refl refl)
+        (rw (i, code-length PUK (codeOf c PUK) (good-code c g PUK (omega arith))))
+        (λ some right. split S (not (allowed j new)) (λ _. unfold okStatus wrongStatus in turned-down 0x6A80 refl refl)
         (λ a. done
         (λ e.
         let now : codeOf c₂ k ≡ v = beside c₁ PUK u (omega arith) one-set (omega arith) ∙ replaced (dropPending c) j v (omega arith) refl e in
-        pin-done (rw q) blocked c₂ e (ap (λ (v : Code). v .verified) now) (ap (λ (v : Code). v .tries) now)
+        pin-done (rw q) blocked puk-shown c₂ e (ap (λ (v : Code). v .verified) now) (ap (λ (v : Code). v .tries) now)
         (ap value now ∙ take-filled 12 new (allowed-most j new (not-false _ a)) ∙ rw (q, code-length PUK (codeOf c PUK) (good-code c g PUK (omega arith)))))
         (λ e.
         let now : codeOf c₂ k ≡ u = replaced c₁ PUK u (omega arith) one-set e in
-        puk-done (rw q) blocked c₂ e (ap (λ (v : Code). v .verified) now) (ap (λ (v : Code). v .tries) now ∙ rw q) (ap value now ∙ rw e) (λ _. rw e some))
+        puk-done (rw q) blocked puk-shown c₂ e (ap (λ (v : Code). v .verified) now) (ap (λ (v : Code). v .tries) now ∙ rw q) (ap value now ∙ rw e) (λ _. rw e some) (λ _. rw e right))
         (λ n m. beside c₁ PUK u (omega arith) one-set m ∙ beside (dropPending c) j v (omega arith) refl n)))
 
     resetRetry-sheet : (eqb (h .p1) 0x00 || eqb (h .p1) 0x03) ≡ true → S (resetRetry (dropPending c) h (dataOf b h))
@@ -590,19 +647,23 @@ module _ (k : ℕ) (h3 : k < 3) (c : Card) (g : good c ≡ true) (b auth sig w :
       → codeOf c′ k .verified ≡ (not (eqb k PIN2 && eqb (kindNumber kind) 2) && codeOf c k .verified)
       → codeOf c′ k .tries ≡ codeOf c k .tries → value (codeOf c′ k) ≡ value (codeOf c k)
       → (eqb (kindNumber kind) 2 ≡ true → codeOf c PIN2 .verified ≡ true)
+      → ((eqb (kindNumber kind) 1 || eqb (kindNumber kind) 3) ≡ true → codeOf c PIN1 .verified ≡ true)
       → Sheet k c x (written w c′ (job kind key block))
   unfolding written replyStatus replyKind wasReset opens closes okStatus wrongStatus
-  handed c′ kind key block m t v given =
-      let it : (eqb (kindNumber kind) 2 && isCommand anyHeader x) ≡ eqb (kindNumber kind) 2 = rw (asked anyHeader, and-true) in
+  handed c′ kind key block m t v given pin1 =
       record {
-        verified = simp (it, and-false, or-false) m;
+        verified = simp (and-true, and-false, or-false) m;
         tries = t;
         stored = v;
+        rightly = never refl;
+        wrongly = never refl;
         wrong = never refl;
         judged = never refl;
         restored = never refl;
         unblocked = never refl;
-        signed = λ e. given (sym it ∙ e);
+        pukUsed = never refl;
+        pin1Used = λ e. pin1 (simp and-true at e);
+        signed = λ e. given (simp and-true at e);
       }
 
   -- 2A 9E 9A SIGN
@@ -618,13 +679,13 @@ module _ (k : ℕ) (h3 : k < 3) (c : Card) (g : good c ≡ true) (b auth sig w :
       (λ given. either (S (record { card = c′; answer = job Sign (keyFor c s 2) (padded (dataOf b h)) })) k PIN2
       (λ e.
       let now : codeOf c′ k ≡ v = replaced c PIN2 v (omega arith) refl e in
-      handed c′ Sign _ _ (ap (λ (v : Code). v .verified) now ∙ rw e) (ap (λ (v : Code). v .tries) now ∙ rw e) (ap value now ∙ rw e) (λ _. not-false _ given))
+      handed c′ Sign _ _ (ap (λ (v : Code). v .verified) now ∙ rw e) (ap (λ (v : Code). v .tries) now ∙ rw e) (ap value now ∙ rw e) (λ _. not-false _ given) (never refl))
       (λ n.
       let now : codeOf c′ k ≡ codeOf c k = beside c PIN2 v (omega arith) refl n in
-      handed c′ Sign _ _ (ap (λ (v : Code). v .verified) now ∙ rw (ne-eqb k PIN2 n)) (ap (λ (v : Code). v .tries) now) (ap value now) (λ _. not-false _ given)))))
+      handed c′ Sign _ _ (ap (λ (v : Code). v .verified) now ∙ rw (ne-eqb k PIN2 n)) (ap (λ (v : Code). v .tries) now) (ap value now) (λ _. not-false _ given) (never refl)))))
 
   -- the commands that change nothing but the session
-  session-sheet : eqb (h .ins) 0x20 ≡ false → eqb (h .ins) 0x24 ≡ false → eqb (h .ins) 0x2C ≡ false → (o : SessionStep) → NoSignature o → S (inSession c o)
+  session-sheet : eqb (h .ins) 0x20 ≡ false → eqb (h .ins) 0x24 ≡ false → eqb (h .ins) 0x2C ≡ false → (o : SessionStep) → Permitted c o → S (inSession c o)
   session-sheet v n u o none =
       other-call k c x w (withSession c (o .session)) (o .answer) refl
       (asked (verifies k) ∙ verifies-no k h v)
@@ -632,8 +693,10 @@ module _ (k : ℕ) (h3 : k < 3) (c : Card) (g : good c ≡ true) (b auth sig w :
       (asked (presents k) ∙ presents-no k h (verifies-no k h v) (changes-no k h n) (rw (presentsPuk-no k h u, and-false)))
       (asked (unblocks k) ∙ unblocks-no k h u)
       (asked anyUnblocks ∙ u)
+      (asked byVerifiedPuk ∙ rw u)
       (asked (storesPin k) ∙ rw (unblocks-no k h u))
-      (rw (kind-written w (withSession c (o .session)) (o .answer), none .kind))
+      (rw (kind-written w (withSession c (o .session)) (o .answer), none .unsigned))
+      (λ e. none .verified (simp (kind-written w (withSession c (o .session)) (o .answer), and-true) at e))
 
   -- steps 2 to 7
   own-sheet : goodParameters h ≡ true → goodLengths h ≡ true → S (ownRules c h (dataOf b h) auth sig)
@@ -690,7 +753,7 @@ delivery-sheet k c r w =
     split S (not (good c)) (λ _. edge-refusal k c (Delivery r w) w BadState)
     (λ _. split S (shortBuffer w) (λ _. edge-refusal k c (Delivery r w) w ShortBuffer)
     (λ _. split S (not (jobWaits c)) (λ _. edge-refusal k c (Delivery r w) w NoJobWaiting)
-    (λ _. other-call k c (Delivery r w) w (withSession c (o .session)) (o .answer) refl refl refl refl refl refl refl (simp and-false))))
+    (λ _. other-call k c (Delivery r w) w (withSession c (o .session)) (o .answer) refl refl refl refl refl refl refl refl (simp and-false) (never (simp and-false)))))
 
 -- A power reset closes each code and changes nothing else of it.
 module _ (c : Card) (g : good c ≡ true) where
@@ -729,10 +792,14 @@ reset-sheet k h3 c =
       verified = simp (and-false) (ap (λ (v : Code). v .verified) now);
       tries = ap (λ (v : Code). v .tries) now;
       stored = ap value now;
+      rightly = never refl;
+      wrongly = never refl;
       wrong = never refl;
       judged = never refl;
       restored = never refl;
       unblocked = never refl;
+      pukUsed = never refl;
+      pin1Used = never refl;
       signed = never refl;
     })
 

@@ -1,4 +1,5 @@
 -- Document 01, "Order of judgement for a command": what a command answers, and response data by Le.
+-- "Key host" is document 01's term for the program that holds the private keys and computes with them.
 use Prim.Native.Nat.{ℕ, _+_}
 use mathlib.Core.Bool.{cond}
 use mathlib.Core.List.{List, []}

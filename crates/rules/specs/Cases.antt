@@ -15,32 +15,41 @@ use Rattle.rules.specs.Keys.{kindNumber}
 use Rattle.rules.specs.Digests.{sha1Prefix}
 use Rattle.rules.specs.Edge.{refusalNumber}
 use Rattle.rules.specs.Counting.{Call, Command, Delivery, PowerReset, Exchange, trace, after, replyStatus}
+use Rattle.rules.specs.Image.{load, loadNumber}
 use Rattle.rules.specs.Sample.{sampleCard, pin1, pin2, puk}
 
--- What is seen of a call: response data and status word, a job's kind and key, an edge refusal's number, or a reset;
--- of a code afterwards: its number, tries and mark; of padding: its answer, and how many bytes FF stand after 00 01.
+-- What is seen of a call: response data and status word; a job's kind, key and block; an edge refusal's number; or a reset.
+-- Of a code afterwards: its number, tries and mark. Of load: its number. Of padding: its answer, and how many bytes FF stand after 00 01.
 pub data Seen : Type 0 where
   shows : Bytes → ℕ → Seen
-  hands : ℕ → ℕ → Seen
+  hands : ℕ → ℕ → Bytes → Seen
   edge : ℕ → Seen
   isReset : Seen
   code : ℕ → ℕ → Bool → Seen
+  loads : ℕ → Seen
   pads : ℕ → ℕ → Seen
 
 abbrev pub seenOf : Reply → Bytes → Seen
 seenOf (Refused r) buffer = edge (refusalNumber r)
 seenOf (Response n) buffer = shows (take (n - 2) buffer) (replyStatus (Response n) buffer)
-seenOf (HandedOut kind key) buffer = hands (kindNumber kind) key
+seenOf (HandedOut kind key) buffer = hands (kindNumber kind) key (take 256 buffer)
 seenOf WasReset buffer = isReset
 
 abbrev pub codeSeen : Card → ℕ → Seen
 codeSeen c k = code k (codeOf c k .tries) (codeOf c k .verified)
 
--- Calls from the sample card: what each shows, and then the three codes.
-unfoldable pub onSample : List Call → List Seen
-onSample calls =
-    map (λ e. seenOf (e .reply) (e .buffer)) (trace sampleCard calls)
-    ++ codeSeen (after sampleCard calls) PUK ∷ codeSeen (after sampleCard calls) PIN1 ∷ codeSeen (after sampleCard calls) PIN2 ∷ []
+-- Calls from a card: what each shows, and then the three codes.
+unfoldable pub onCard : Card → List Call → List Seen
+onCard c calls =
+    map (λ e. seenOf (e .reply) (e .buffer)) (trace c calls)
+    ++ codeSeen (after c calls) PUK ∷ codeSeen (after c calls) PIN1 ∷ codeSeen (after c calls) PIN2 ∷ []
+
+abbrev pub onSample : List Call → List Seen
+onSample = onCard sampleCard
+
+-- The number of load.
+unfoldable pub loading : Bytes → List Seen
+loading image = loads (loadNumber (load image .result)) ∷ []
 
 -- How many bytes FF a string starts with.
 abbrev pub countFF : Bytes → ℕ
@@ -59,11 +68,14 @@ pub record Case : Type 0 where
   pub expected : List Seen
 
 -- A command with any certificates and a buffer of 258 bytes; a delivery into such a buffer.
+abbrev pub buffer : Bytes
+buffer = replicate 258 0xEE
+
 abbrev pub send : Bytes → Call
-send apdu = Command apdu (0x30 ∷ []) (0x30 ∷ []) (replicate 258 0xEE)
+send apdu = Command apdu (0x30 ∷ []) (0x30 ∷ []) buffer
 
 abbrev pub deliverTo : Bytes → Call
-deliverTo result = Delivery result (replicate 258 0xEE)
+deliverTo result = Delivery result buffer
 
 -- Commands of the cases, by their bytes.
 abbrev pub withBody : ℕ → ℕ → ℕ → ℕ → Bytes → Call
@@ -75,8 +87,15 @@ verifyOf k d = withBody 0x00 0x20 0x00 k d
 abbrev pub wrongPin1 : Call
 wrongPin1 = verifyOf PIN1 (0x39 ∷ 0x39 ∷ 0x39 ∷ 0x39 ∷ [])
 
+abbrev pub sha1Digest : Bytes
+sha1Digest = sha1Prefix ++ replicate 20 0x07
+
 abbrev pub signSha1 : Call
-signSha1 = withBody 0x00 0x2A 0x9E 0x9A (sha1Prefix ++ replicate 20 0x07)
+signSha1 = withBody 0x00 0x2A 0x9E 0x9A sha1Digest
+
+-- The job that it hands out: kind 2, key 0100h, and the 35 bytes behind 218 bytes FF.
+abbrev pub signJob : Seen
+signJob = hands 2 0x0100 (0x00 ∷ 0x01 ∷ (replicate 218 0xFF ++ 0x00 ∷ sha1Digest))
 
 abbrev pub changePin1To12 : Call
 changePin1To12 = withBody 0x00 0x24 0x00 PIN1 (pin1 ++ 0x31 ∷ 0x32 ∷ [])
@@ -111,11 +130,11 @@ cases =
     -- P2 PIN2 right, sign twice with a delivery between: job, then 6982; a delivery of 256 bytes, and one of none
     ∷ record {
       seen = onSample (verifyOf PIN2 pin2 ∷ signSha1 ∷ deliverTo (replicate 256 0x5A) ∷ signSha1 ∷ []);
-      expected = sw 0x9000 ∷ hands 2 0x0100 ∷ sw 0x6100 ∷ sw 0x6982 ∷ fresh;
+      expected = sw 0x9000 ∷ signJob ∷ sw 0x6100 ∷ sw 0x6982 ∷ fresh;
     }
     ∷ record {
       seen = onSample (verifyOf PIN2 pin2 ∷ signSha1 ∷ deliverTo [] ∷ signSha1 ∷ []);
-      expected = sw 0x9000 ∷ hands 2 0x0100 ∷ sw 0x6400 ∷ sw 0x6982 ∷ fresh;
+      expected = sw 0x9000 ∷ signJob ∷ sw 0x6400 ∷ sw 0x6982 ∷ fresh;
     }
     -- P3 00 2C 03 01: 6A86
     ∷ record { seen = onSample (send (0x00 ∷ 0x2C ∷ 0x03 ∷ 0x01 ∷ []) ∷ []); expected = sw 0x6A86 ∷ fresh }

@@ -4,9 +4,9 @@ use Prim.Native.Nat.{ℕ, _+_, _-_, _≤_, _<_}
 use mathlib.Core.Path.{_≡_}
 use mathlib.Core.Bool.{Bool, true, false, cond, not, _&&_, _||_}
 use mathlib.Core.List.{List, []}
-use lib.ListN.{length, drop}
+use lib.ListN.{length, take, drop}
 use lib.Dec.{eqb, leb}
-use Rattle.octets.specs.Octets.{Bytes}
+use Rattle.octets.specs.Octets.{Bytes, same}
 use Rattle.rules.specs.declared.Card.{Card}
 use Rattle.rules.specs.declared.Outcome.{Outcome}
 use Rattle.rules.specs.declared.Header.{Header}
@@ -14,9 +14,9 @@ use Rattle.rules.specs.declared.Parsed.{Parsed}
 use Rattle.rules.specs.declared.Parsed.the-variants.{Form, Malformed}
 use Rattle.rules.specs.declared.Reply.{Reply}
 use Rattle.rules.specs.declared.Reply.the-variants.{Refused, Response, HandedOut, WasReset}
-use Rattle.rules.specs.Codes.{PUK, PIN2, fullTries, value, codeOf}
+use Rattle.rules.specs.Codes.{PUK, PIN1, PIN2, fullTries, value, codeOf}
 use Rattle.rules.specs.Apdu.{parse, dataOf}
-use Rattle.rules.specs.Counting.{Call, Command, Delivery, PowerReset, Exchange, step, exchangeOf, statusWord, okStatus, verifies, changes, unblocks, presentsPuk, answers, wrongAnswer, restoration, unblocking, rightVerify, handsSignature}
+use Rattle.rules.specs.Counting.{Call, Command, Delivery, PowerReset, Exchange, step, exchangeOf, statusWord, okStatus, verifies, changes, unblocks, presentsPuk, answers, wrongAnswer, restoration, unblocking, rightVerify, handsJob, handsSignature}
 
 -- 9000 to a CHANGE of code k.
 abbrev pub changed : ℕ → Exchange → Bool
@@ -26,8 +26,8 @@ changed k = answers okStatus (changes k)
 abbrev pub anyUnblocks : Header → Bool
 anyUnblocks h = eqb (h .ins) 0x2C
 
-abbrev pub unblocked : Exchange → Bool
-unblocked = answers okStatus anyUnblocks
+abbrev pub anyUnblocked : Exchange → Bool
+anyUnblocked = answers okStatus anyUnblocks
 
 -- 9000 to a 2C with P1 00 for PIN k, which stores a new value.
 abbrev pub storesPin : ℕ → Header → Bool
@@ -51,7 +51,7 @@ closes k e =
     wrongAnswer k e
     || changed k e
     || unblocking k e
-    || eqb k PUK && unblocked e
+    || eqb k PUK && anyUnblocked e
     || eqb k PIN2 && handsSignature e
     || wasReset (e .reply)
 
@@ -80,18 +80,45 @@ valueAfter k e puk stored =
     cond (changed k e) (drop (length stored) (dataSent (e .call)))
     (cond (answers okStatus (storesPin k) e) (drop (length puk) (dataSent (e .call))) stored)
 
+-- The value that a command presents for a code: a VERIFY's data; of a CHANGE, or of a RESET RETRY with P1 00, as many bytes as the stored value has.
+abbrev pub presentedBy : Header → Bytes → Bytes → Bytes
+presentedBy h stored d = cond (eqb (h .ins) 0x20) d (take (length stored) d)
+
+abbrev pub formPresents : Bytes → Bytes → Parsed → Bytes
+formPresents stored apdu (Form h) = presentedBy h stored (dataOf apdu h)
+formPresents stored apdu Malformed = []
+
+abbrev pub presentedIn : Bytes → Call → Bytes
+presentedIn stored (Command apdu authentication signature buffer) = formPresents stored apdu (parse apdu)
+presentedIn stored (Delivery result buffer) = []
+presentedIn stored PowerReset = []
+
+-- A RESET RETRY with P1 03.
+abbrev pub byVerifiedPuk : Header → Bool
+byVerifiedPuk h = eqb (h .ins) 0x2C && eqb (h .p1) 0x03
+
+-- A job that uses PIN1: of kind 1 or 3.
+abbrev pub handsPin1Job : Exchange → Bool
+handsPin1Job e = handsJob 1 e || handsJob 3 e
+
 -- The sheet: code k before and after a call x on the card c that gave o.
 pub record Sheet (k : ℕ) (c : Card) (x : Call) (o : Outcome × Bytes) : Type 0 where
   pub verified : codeOf (o .0 .card) k .verified ≡ verifiedAfter k (exchangeOf x o) (codeOf c k .verified)
   pub tries : codeOf (o .0 .card) k .tries ≡ triesAfter k (exchangeOf x o) (codeOf c k .tries)
   pub stored : value (codeOf (o .0 .card) k) ≡ valueAfter k (exchangeOf x o) (value (codeOf c PUK)) (value (codeOf c k))
+  -- right means the stored value, whole; wrong means another
+  pub rightly : restoration k (exchangeOf x o) ≡ true → presentedIn (value (codeOf c k)) x ≡ value (codeOf c k)
+  pub wrongly : wrongAnswer k (exchangeOf x o) ≡ true → same (presentedIn (value (codeOf c k)) x) (value (codeOf c k)) ≡ false
   -- 63Cx says how many tries are left
   pub wrong : wrongAnswer k (exchangeOf x o) ≡ true → statusWord (exchangeOf x o) ≡ 0x63C0 + codeOf (o .0 .card) k .tries
   -- a code with no tries left is judged neither wrong nor right; only such a PIN is unblocked
   pub judged : wrongAnswer k (exchangeOf x o) ≡ true → 1 ≤ codeOf c k .tries
   pub restored : restoration k (exchangeOf x o) ≡ true → 1 ≤ codeOf c k .tries
   pub unblocked : unblocking k (exchangeOf x o) ≡ true → codeOf c k .tries ≡ 0
-  -- a signature is handed out only while PIN2 is verified
+  -- an unblocking with P1 03 happens only while PUK is verified
+  pub pukUsed : answers okStatus byVerifiedPuk (exchangeOf x o) ≡ true → codeOf c PUK .verified ≡ true
+  -- jobs 1 and 3 are handed out only while PIN1 is verified, a signature only while PIN2 is
+  pub pin1Used : handsPin1Job (exchangeOf x o) ≡ true → codeOf c PIN1 .verified ≡ true
   pub signed : handsSignature (exchangeOf x o) ≡ true → codeOf c PIN2 .verified ≡ true
 
 -- For each code, every card, good or not, and every call.

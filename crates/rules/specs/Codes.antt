@@ -1,4 +1,5 @@
 -- Document 01, "What the card has": the three codes (reference data), their limits and their retry counters.
+-- "Tries left" is document 01's term for the retry counter, "verified mark" for the verified state of a code.
 use Prim.Native.Nat.{ℕ, _-_}
 use mathlib.Core.Bool.{Bool, false, cond, _&&_}
 use mathlib.Core.List.{List, []}
@@ -26,7 +27,7 @@ least k = cond (eqb k PUK) 8 (cond (eqb k PIN1) 4 5)
 abbrev pub most : ℕ
 most = 12
 
--- The three tries that a code starts with, and that a right value or an unblocking gives back.
+-- The three tries that a right value or an unblocking gives a code.
 abbrev pub fullTries : ℕ
 fullTries = 3
 

@@ -1,4 +1,5 @@
 -- Document 01, "What demand 3 counts": sequences of calls, and what is counted of the calls' bytes and what they wrote and returned.
+-- "Wrong answer", "restoration", "unblocking" and "right presentation" are document 01's terms; "exchange" and "trace" are ours.
 use Prim.Native.Nat.{ℕ, zero, suc, _+_, _-_}
 use mathlib.Core.Bool.{Bool, true, false, _&&_, _||_}
 use mathlib.Core.List.{List, [], _∷_}
@@ -124,12 +125,18 @@ unblocking k = answers okStatus (unblocks k)
 abbrev pub rightVerify : ℕ → Exchange → Bool
 rightVerify k = answers okStatus (verifies k)
 
--- A signature handed to the key host: a job of kind 2 that a command returned.
-abbrev pub anyHeader : Header → Bool
-anyHeader h = true
+-- A job of a kind number that a command returned.
+abbrev pub byCommand : Call → Bool
+byCommand (Command apdu authentication signature buffer) = true
+byCommand (Delivery result buffer) = false
+byCommand PowerReset = false
 
+abbrev pub handsJob : ℕ → Exchange → Bool
+handsJob kind e = eqb (replyKind (e .reply)) kind && byCommand (e .call)
+
+-- A signature handed to the key host: a job of kind 2 that a command returned.
 abbrev pub handsSignature : Exchange → Bool
-handsSignature e = eqb (replyKind (e .reply)) 2 && isCommand anyHeader (e .call)
+handsSignature = handsJob 2
 
 -- How many exchanges of a sequence pass a test.
 abbrev pub one : Bool → ℕ

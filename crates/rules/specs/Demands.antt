@@ -13,7 +13,8 @@ use Rattle.rules.specs.declared.LoadResult.the-variants.{Accepted, Fault
 use Rattle.rules.specs.declared.Refusal.{Refusal}
 use Rattle.rules.specs.declared.Refusal.the-variants.{BadState}
 use Rattle.rules.specs.declared.Reply.the-variants.{Refused, Response, HandedOut}
-use Rattle.rules.specs.Codes.{PUK}
+use Rattle.rules.specs.Codes.{PUK, codeOf}
+use Rattle.rules.specs.Session.{newSession}
 use Rattle.rules.specs.State.{good}
 use Rattle.rules.specs.Edge.{refused}
 use Rattle.rules.specs.Image.{load, zeroCard, faultNumber}
@@ -39,7 +40,7 @@ pub record Defined (c : Card) (x : Call) : Type 0 where
   pub response : (n : ℕ) → step c x .0 .reply ≡ Response n → (2 ≤ n) × (n ≤ 258) × (drop n (step c x .1) ≡ drop n (bufferOf x))
   -- a refusal by status word writes that word and nothing else
   pub refusal : (n : ℕ) → step c x .0 .reply ≡ Response n → refusalStatus (statusWord (exchange c x)) ≡ true → n ≡ 2
-  -- a job writes 256 bytes, and nothing past them changes
+  -- past the 256 bytes of a job nothing changes
   pub job : (kind : JobKind) (key : ℕ) → step c x .0 .reply ≡ HandedOut kind key → drop 256 (step c x .1) ≡ drop 256 (bufferOf x)
   -- the buffer keeps its length
   pub sized : length (step c x .1) ≡ length (bufferOf x)
@@ -53,9 +54,13 @@ pub record GoodStates : Type 0 where
   pub kept : (c : Card) (x : Call) → ofBytes x ≡ true → good c ≡ true → good (next c x) ≡ true
   pub zero : good zeroCard ≡ false
 
--- Images: one that loads has 84 to 1,115 bytes; a refused one gives one of 21 to 27 beside the all-zero state.
+-- Images: one that loads has 84 to 1,115 bytes, and its card starts in a new session, with no code verified and the tries that the
+-- image gives; a refused one gives its number, from 21 to 27, beside the all-zero state.
 pub record Images : Type 0 where
   pub read : (image : Bytes) → load image .result ≡ Accepted → (84 ≤ length image) × (length image ≤ 1115)
+  pub session : (image : Bytes) → load image .result ≡ Accepted → load image .card .session ≡ newSession
+  pub unverified : (image : Bytes) → load image .result ≡ Accepted → (k : ℕ) → k < 3 → codeOf (load image .card) k .verified ≡ false
+  pub tries : (image : Bytes) → load image .result ≡ Accepted → (k : ℕ) → k < 3 → codeOf (load image .card) k .tries ≡ triesAtLoad image k
   pub refused : (image : Bytes) (f : Fault) → load image .result ≡ Faulty f
       → (load image .card ≡ zeroCard) × (21 ≤ faultNumber f) × (faultNumber f ≤ 27)
 
@@ -75,7 +80,7 @@ pub record Counted (image : Bytes) (c : Card) : Type 0 where
   -- the bound is met, from every loaded card with three tries on each code, for each code by itself
   pub met : ((k : ℕ) → k < 3 → triesAtLoad image k ≡ 3)
       → (k : ℕ) → k < 3 → (r u : ℕ) → (k ≡ PUK → u ≡ 0) → Reached c k r u (3 + 2 * r + 3 * u)
-  -- the signatures handed to the key host are at most the right pin2Presentations of PIN2 by VERIFY
+  -- the signatures handed to the key host are at most the right presentations of PIN2 by VERIFY
   pub signed : (calls : List Call) → signatures (trace c calls) ≤ pin2Presentations (trace c calls)
 
 -- Demand 3: one statement over every image that loads and any sequence of calls.

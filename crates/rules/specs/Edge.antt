@@ -35,7 +35,7 @@ replyValues (Response n) = n ∷ []
 replyValues (HandedOut kind key) = kindNumber kind ∷ key ∷ []
 replyValues WasReset = []
 
--- What a call returns, and the buffer as it leaves it. An edge refusal: state and buffer stay.
+-- An edge refusal: state and buffer stay.
 abbrev pub refused : Card → Bytes → Refusal → Outcome × Bytes
 refused c buffer r = (record { card = c; reply = Refused r }, buffer)
 
@@ -43,7 +43,7 @@ refused c buffer r = (record { card = c; reply = Refused r }, buffer)
 unfoldable pub responseIn : Bytes → Bytes → ℕ → Bytes
 responseIn buffer d sw = d ++ ((sw / 256) ∷ (sw % 256) ∷ drop (length d + 2) buffer)
 
--- A response writes its data, then two status bytes, and returns its length. A job writes 256 bytes and returns kind and key.
+-- What a call returns, and the buffer as it leaves it. A response writes its data, then two status bytes, and returns its length. A job writes 256 bytes and returns kind and key.
 unfoldable pub written : Bytes → Card → Answer → Outcome × Bytes
 written buffer c (response d sw) = (record { card = c; reply = Response (length d + 2) }, responseIn buffer d sw)
 written buffer c (job kind key block) = (record { card = c; reply = HandedOut kind key }, block ++ drop (length block) buffer)

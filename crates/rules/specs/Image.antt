@@ -1,4 +1,4 @@
--- Document 01, "Card image (house)": what load reads, and the first fault in reading order.
+-- Document 01, "Card image (house)": what load reads, and the first fault in reading order. "Card image" and "load" are document 01's terms.
 use Prim.Native.Nat.{ℕ, zero, suc}
 use mathlib.Core.Bool.{Bool, true, false, cond, _&&_, _||_}
 use mathlib.Core.List.{List, [], _∷_}

@@ -53,10 +53,10 @@ internalAuthenticate c s h d =
 -- Job 2, and PIN2's mark goes off as the job is handed out (house, after userConsent 1 in 001).
 unfoldable pub sign : Card → Session → Header → Bytes → Step
 sign c s h d =
-    let turnedDown : ℕ → Step = λ sw. status (withSession c s) sw in
-    cond (not (isDigest d)) (turnedDown 0x6A80)
-    (cond (not (eqb (s .environment .number) 1)) (turnedDown 0x6985)
-    (cond (not (codeOf c PIN2 .verified)) (turnedDown 0x6982)
+    let refusing : ℕ → Step = λ sw. status (withSession c s) sw in
+    cond (not (isDigest d)) (refusing 0x6A80)
+    (cond (not (eqb (s .environment .number) 1)) (refusing 0x6985)
+    (cond (not (codeOf c PIN2 .verified)) (refusing 0x6982)
     (inSession (closed c PIN2) (handOut s Sign (keyFor c s (kindNumber Sign)) (h .le) (padded d)))))
 
 -- 2A 80 86 DECIPHER joins the chain. Over 257: 6700. Class 10h: 9000. Class 00h: total not 257, 6700; first byte not 00, 6A80;

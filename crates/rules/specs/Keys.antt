@@ -1,4 +1,5 @@
--- Document 01, "What the card has": the keys, their classes, and the active key of each class.
+-- Document 01, "What the card has": the keys, their classes, and the active key of each class. "Active" and "choice" are document 01's terms
+-- for the key of a class that the card uses by itself, and for the key that a MANAGE SECURITY ENVIRONMENT names instead.
 use Prim.Native.Nat.{ℕ, _-_}
 use mathlib.Core.Bool.{Bool, false, cond, _&&_, _||_}
 use mathlib.Core.List.{List, [], _∷_}

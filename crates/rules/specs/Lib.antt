@@ -18,3 +18,4 @@ pub mod Demands
 pub mod CodeSheet
 pub mod Sample
 pub mod Cases
+pub mod FurtherCases

@@ -1,4 +1,4 @@
--- Document 01, "The edge": what a good state is. Nothing more is asked.
+-- Document 01, "The edge": what a good state is ("good" is document 01's term). Nothing more is asked.
 use Prim.Native.Nat.{ℕ, zero, suc}
 use mathlib.Core.Bool.{Bool, true, cond, not, _&&_, _||_}
 use mathlib.Core.List.{List, [], _∷_}

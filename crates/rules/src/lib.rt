@@ -17,7 +17,7 @@ impl Code {
 
     pub const PIN2: usize = 2;
 
-    // The three tries that a code starts with, and that a right value or an unblocking gives back.
+    // The three tries that a right value or an unblocking gives a code.
     pub const TRIES: u8 = 3;
 
     // The greatest length of a code.

@@ -1,0 +1,33 @@
+use mathlib.Core.Path.{_≡_}
+use denote.Ref.{now}
+use lib.ListN.{length, take, drop}
+use Rattle.octets.specs.Octets.{Bytes}
+use mathlib.Core.Bool.{and-true}
+use Rattle.octets.proofs.Strings.{take-rest}
+use Rattle.rules.specs.State.{goodRoom}
+use borrow.Author.Needs.{needs}
+use Rattle.codes.proofs.good_room.Statement.{statement}
+use Rattle.codes.proofs.good_room.Tie as tie
+use Rattle.codes.proofs.good_room.Reads as reads
+use Rattle.codes.proofs.good_room.Lts as lts
+use Rattle.octets.proofs.all_zero.Reads as all-zero-reads
+use Rattle.octets.proofs.part.Reads as part-reads
+
+-- src/lib.rt:78:35
+part-requires : tie.Need-part-requires
+part-requires c κs = search needs
+
+-- src/lib.rt:78:9
+all-zero-requires : tie.Need-all-zero-requires
+all-zero-requires c κs = search needs
+
+-- src/lib.rt:74:1
+returns : tie.Need-returns
+unfolding goodRoom
+returns c =
+    let b : Bytes = now (c .before .before .before .args .bytes) in
+    let unused : now (c .before .part .result) ≡ take (length b) (drop (c .before .before .before .args .len) b) = c .before .part .ensures in
+    simp (c .all-zero .ensures, unused, take-rest b (c .before .before .before .args .len), and-true)
+
+pub good-room-spec : {M : Type 1} → statement M
+good-room-spec = tie.close (tie.spec part-requires all-zero-requires returns)

@@ -1,0 +1,31 @@
+use mathlib.Core.Path.{_≡_}
+use denote.Ref.{now}
+use lib.ListN.{length, take, drop}
+use Rattle.octets.specs.Octets.{Bytes}
+use Rattle.octets.proofs.Strings.{take-twice}
+use Rattle.rules.specs.Codes.{storing}
+use borrow.Author.Needs.{needs}
+use Rattle.codes.proofs.storing.Statement.{statement}
+use Rattle.codes.proofs.storing.Tie as tie
+use Rattle.codes.proofs.storing.Reads as reads
+use Rattle.codes.proofs.storing.Lts as lts
+use Rattle.octets.proofs.filled_12.Reads as filled-12-reads
+use Rattle.octets.proofs.part.Reads as part-reads
+
+-- src/lib.rt:34:9
+part-requires : tie.Need-part-requires
+part-requires c κs = search needs
+
+-- src/lib.rt:36:17
+filled-12-requires : tie.Need-filled-12-requires
+filled-12-requires c κs = search needs
+
+-- src/lib.rt:31:1
+returns : tie.Need-returns
+returns c =
+    let d : Bytes = now (c .before .before .before .args .value) in
+    let kept : now (c .before .part .result) ≡ take 12 d = c .before .part .ensures in
+    simp (c .filled-12 .ensures, kept, take-twice 12 d)
+
+pub storing-spec : {M : Type 1} → statement M
+storing-spec = tie.close (tie.spec part-requires filled-12-requires returns)

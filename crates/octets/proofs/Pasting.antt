@@ -1,0 +1,98 @@
+-- Laws of a string written into another, and of the part of a string from a place on.
+use mathlib.Core.Path.{_≡_, _∙_}
+use mathlib.Core.List.{[], _∷_, _++_, append-assoc, append-nil}
+use Prim.Native.Nat.{ℕ, zero, suc, _+_, _-_, _<_, _≤_, min}
+use native.Mathlib.Nat.{sub-zero, zero-sub, suc-sub-suc, zero-add}
+use native.Mathlib.Numerals.{add-one}
+use native.Mathlib.Omega.{arith, min-cases}
+use lib.ListN.{length, take, drop, set, replicate, length-append, length-take, length-drop, length-replicate, getD-replicate, drop-of-length-le}
+use lib.Seq.{take-nil, take-all, take-at, drop-append-add, drop-drop, drop-cons, set-at, append-snoc, paste, paste-suc}
+use Rattle.octets.specs.Octets.{Bytes, byteAt, blank, filled, pasted}
+
+-- A loop that copies as many bytes as fit.
+module _ (dst : Bytes) (at : ℕ) (src : Bytes) where
+  whole : length src ≤ length dst - at → paste dst at src (length src) ≡ pasted dst at src
+  unfolding pasted
+  whole h = rw (take-all (length dst - at) src h, take-all (length src) src (omega arith), append-assoc)
+
+  cut : length dst - at ≤ length src → paste dst at src (length dst - at) ≡ pasted dst at src
+  unfolding pasted
+  cut h =
+      let past : length dst ≤ at + length src = omega arith in
+      let end : length dst ≤ at + (length dst - at) = omega arith in
+      rw (drop-of-length-le dst past, drop-of-length-le dst end, append-assoc)
+
+  pub paste-fitting : (n : ℕ) → n ≡ min (length src) (length dst - at) → paste dst at src n ≡ pasted dst at src
+  paste-fitting n e =
+      min-cases (length src) (length dst - at) (paste dst at src n ≡ pasted dst at src)
+      (λ h m. rw (e, m) (whole h))
+      (λ h m. rw (e, m) (cut h))
+
+  -- The length stays.
+  pub length-pasted : length (pasted dst at src) ≡ length dst
+  unfolding pasted
+  length-pasted = simp (length-append, length-take, length-drop) (omega arith)
+
+  -- Past the end nothing is written.
+  pub pasted-past : length dst ≤ at → pasted dst at src ≡ dst
+  unfolding pasted
+  pasted-past h =
+      let none : length dst - at ≡ 0 = omega arith in
+      let past : length dst ≤ at + length src = omega arith in
+      rw (take-all at dst h, none, drop-of-length-le dst past, append-nil dst)
+
+-- A turn of the loop that writes one byte again and again.
+pub paste-byte : (dst : Bytes) (at n byte j : ℕ) → at + j < length dst → j < n
+    → set (paste dst at (replicate n byte) j) (at + j) byte ≡ paste dst at (replicate n byte) (suc j)
+paste-byte dst at n byte j h k =
+    let l : length (replicate n byte) ≡ n = length-replicate n byte in
+    rw (getD-replicate n j byte 0 k) at (paste-suc dst at (replicate n byte) j 0 h (omega arith))
+
+pub length-blank : (n : ℕ) → length (blank n) ≡ n
+unfolding blank
+length-blank n = length-replicate n 0
+
+drop-zeros : (k n : ℕ) → drop k (blank n) ≡ blank (n - k)
+unfolding blank
+drop-zeros zero n = rw (sub-zero n)
+drop-zeros (suc k) zero = rw (zero-sub (suc k))
+drop-zeros (suc k) (suc n) = rw (suc-sub-suc n k) (drop-zeros k n)
+
+-- A string at the front of zeros.
+pub pasted-blank : (n : ℕ) (s : Bytes) → pasted (blank n) 0 s ≡ filled n (take n s)
+unfolding pasted filled
+pasted-blank n s =
+    let left : n - min n (length s) ≡ n - length s = omega arith in
+    rw (length-blank n, sub-zero n, zero-add (length s), drop-zeros (length s) n, length-take n s, left)
+
+pub filled-by : (n : ℕ) (s : Bytes) {zeros written : Bytes} → zeros ≡ blank n → written ≡ pasted zeros 0 s → written ≡ filled n (take n s)
+filled-by n s e w = w ∙ rw e (pasted-blank n s)
+
+-- A string that fits is not cut.
+pub filled-whole : (n : ℕ) (s : Bytes) → length s ≤ n → filled n (take n s) ≡ filled n s
+filled-whole n s h = rw (take-all n s h)
+
+-- The n bytes from a place on, where there are fewer.
+module _ (s : Bytes) (from n : ℕ) where
+  pub part-none : length s < from → [] ≡ take n (drop from s)
+  part-none h =
+      let past : length s ≤ from = omega arith in
+      rw (drop-of-length-le s past, take-nil n)
+
+  pub part-rest : length s - from < n → take (length s - from) (drop from s) ≡ take n (drop from s)
+  part-rest h =
+      let left : length (drop from s) ≡ length s - from = length-drop from s in
+      rw (take-all (length s - from) (drop from s) (omega arith), take-all n (drop from s) (omega arith))
+
+-- A buffer written from its front, piece by piece: what was written, up to the place `at`, then the buffer's own bytes.
+module _ (buffer front : Bytes) (at : ℕ) (e : length front ≡ at) (next : ℕ) (room : next ≤ length buffer) where
+  pub then-byte : (x : ℕ) → at + 1 ≡ next → set (front ++ drop at buffer) at x ≡ (front ++ x ∷ []) ++ drop next buffer
+  then-byte x n =
+      let h : at < length buffer = omega arith in
+      rw (drop-cons buffer at 0 h, set-at front (byteAt buffer at) (drop (suc at) buffer) x at e, ← n, add-one, append-snoc front x (drop (suc at) buffer))
+
+  pub then-string : (s : Bytes) → at + length s ≡ next → pasted (front ++ drop at buffer) at s ≡ (front ++ s) ++ drop next buffer
+  unfolding pasted
+  then-string s n =
+      let fits : length s ≤ length (front ++ drop at buffer) - at = simp (length-append, length-drop) (omega arith) in
+      rw (take-all _ s fits, take-at front (drop at buffer) at e, ← n, ← e, drop-append-add front (drop (length front) buffer) (length s), drop-drop (length s) (length front) buffer, append-assoc)

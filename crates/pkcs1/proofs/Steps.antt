@@ -1,0 +1,71 @@
+-- What the proofs of the functions cite: a block written piece by piece, and a search for the first zero.
+use mathlib.Core.Path.{_≡_, refl, ap}
+use mathlib.Core.Logic.{_≢_}
+use mathlib.Core.Bool.{Bool, cond, _&&_}
+use mathlib.Core.List.{[], _∷_, _++_}
+use Prim.Native.Nat.{ℕ, suc, _+_, _-_, _<_, _≤_}
+use native.Mathlib.Numerals.{add-one}
+use native.Mathlib.Omega.{arith}
+use lib.ListN.{length, take, drop, set, replicate, length-append, length-drop, length-replicate, drop-of-length-le}
+use lib.Dec.{eqb, leb, ltb}
+use lib.Seq.{take-all, drop-cons}
+use borrow.Author.Tests.{eq-eqb, ne-eqb}
+use Rattle.octets.specs.Octets.{Bytes, byteAt, pasted}
+use Rattle.octets.proofs.Tests.{by-test}
+use Rattle.octets.proofs.Pasting.{then-byte, then-string}
+use Rattle.pkcs1.specs.Pkcs1.{padded, beforeZero, enciphered, strip}
+use Rattle.pkcs1.proofs.Laws.{padded-parts}
+
+-- The search from an index on: the byte there is not zero, it is zero, or none is left.
+module _ (s : Bytes) (i : ℕ) where
+  pub zero-more : i < length s → byteAt s i ≢ 0 → beforeZero (drop i s) ≡ suc (beforeZero (drop (i + 1) s))
+  unfolding beforeZero
+  zero-more h n = rw (add-one, drop-cons s i 0, ne-eqb (byteAt s i) 0 n)
+
+  pub zero-stop : i < length s → byteAt s i ≡ 0 → beforeZero (drop i s) ≡ 0
+  unfolding beforeZero
+  zero-stop h e = rw (drop-cons s i 0, eq-eqb (byteAt s i) 0 e)
+
+  pub zero-end : length s ≤ i → beforeZero (drop i s) ≡ 0
+  unfolding beforeZero
+  zero-end h = rw (drop-of-length-le s h)
+
+before-most : (s : Bytes) → beforeZero s ≤ length s
+unfolding beforeZero
+before-most [] = omega arith
+before-most (x ∷ s) = by-test (beforeZero (x ∷ s) ≤ suc (length s)) (eqb x 0) (λ e. rw e (omega arith)) (λ e. rw e (omega (arith, before-most s)))
+
+-- Stripping, where the zero was looked for behind the first two bytes: how many bytes stand before it, and the answer by the test of the block.
+module _ (b : Bytes) (n : ℕ) (found : n ≡ beforeZero (take (length b - 2) (drop 2 b))) where
+  rest : take (length b - 2) (drop 2 b) ≡ drop 2 b
+  rest = take-all (length b - 2) (drop 2 b) (simp length-drop (omega arith))
+
+  pub before-fits : n ≤ length b - 2
+  before-fits = omega (arith, found, ap beforeZero rest, before-most (drop 2 b), length-drop 2 b)
+
+  pub strip-by : length b ≡ 256 → (t : Bool) → (eqb (byteAt b 0) 0x00 && eqb (byteAt b 1) 0x02 && leb 8 n && ltb n 254) ≡ t → strip b ≡ cond t (n + 3) 0
+  unfolding strip enciphered
+  strip-by e t h = rw (eq-eqb (length b) 256 e, ← rest, ← found, h)
+
+opened : (buffer : Bytes) → 2 ≤ length buffer → set (set buffer 0 0x00) 1 0x01 ≡ 0x00 ∷ 0x01 ∷ drop 2 buffer
+opened [] h = absurd (omega arith)
+opened (x ∷ []) h = absurd (omega arith)
+opened (x ∷ (y ∷ rest)) h = refl
+
+-- The pieces of a padded block, written one after the other.
+pub padded-by : (d buffer : Bytes) (start : ℕ) → start ≡ 256 - length d → length d ≤ 245 → 256 ≤ length buffer
+    → pasted (set (pasted (set (set buffer 0 0x00) 1 0x01) 2 (replicate (start - 3) 0xFF)) (start - 1) 0x00) start d ≡ padded d ++ drop 256 buffer
+padded-by d buffer start e few room =
+    let filler : Bytes = replicate (start - 3) 0xFF in
+    let front : Bytes = 0x00 ∷ 0x01 ∷ [] in
+    let count : length filler ≡ start - 3 = length-replicate (start - 3) 0xFF in
+    let left : 253 - length d ≡ start - 3 = omega arith in
+    let size : length (front ++ filler ++ 0x00 ∷ []) ≡ start = simp length-append (omega arith) in
+    rw (
+      opened buffer (omega arith),
+      then-string buffer front 2 refl (start - 1) (omega arith) filler (omega arith),
+      then-byte buffer (front ++ filler) (start - 1) (omega arith) start (omega arith) 0x00 (omega arith),
+      then-string buffer (front ++ filler ++ 0x00 ∷ []) start size 256 room d (omega arith),
+      padded-parts d,
+      left,
+    )
