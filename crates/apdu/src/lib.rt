@@ -4,7 +4,8 @@ use rules::Parsed;
 ghost use mathlib.Core.Path.{_≡_};
 ghost use mathlib.Core.Bool.{cond};
 ghost use Rattle.rules.specs.Apdu.{leOf, parse};
-ghost use Rattle.rules.specs.Judgement.{goodParameters, goodLengths};
+ghost use Rattle.octets.specs.Octets.{member};
+ghost use Rattle.rules.specs.Judgement.{classes, instructions, badChaining, goodParameters, goodLengths};
 
 // Le as the byte says it: 00 means 256.
 fn le_of(x: u8) -> usize
@@ -54,7 +55,32 @@ pub fn parse(apdu: &[u8]) -> Parsed
     Parsed::Malformed
 }
 
-// Step 5 of the order of judgement: P1 and P2, a row for each instruction.
+// Step 2 of the order of judgement: class 00h or 10h.
+pub fn known_class(h: Header) -> bool
+    ensures { λ r. ⌜ r ≡ member (h .cla) classes ⌝ }
+{
+    let cla = h.cla;
+    (cla == 0x00) | (cla == 0x10)
+}
+
+// Step 3: an instruction of the list.
+pub fn known_instruction(h: Header) -> bool
+    ensures { λ r. ⌜ r ≡ member (h .ins) instructions ⌝ }
+{
+    let ins = h.ins;
+    let files = (ins == 0xA4) | ((ins == 0xB2) | ((ins == 0xB0) | (ins == 0xC0)));
+    let codes = (ins == 0x20) | ((ins == 0x24) | (ins == 0x2C));
+    files | (codes | ((ins == 0x22) | ((ins == 0x88) | (ins == 0x2A))))
+}
+
+// Step 4: class 10h with anything but 2A 80 86.
+pub fn bad_chaining(h: Header) -> bool
+    ensures { λ r. ⌜ r ≡ badChaining h ⌝ }
+{
+    (h.cla == 0x10) & !((h.ins == 0x2A) & (h.p1 == 0x80) & (h.p2 == 0x86))
+}
+
+// Step 5: P1 and P2, a row for each instruction.
 pub fn good_parameters(h: Header) -> bool
     ensures { λ r. ⌜ r ≡ goodParameters h ⌝ }
 {

@@ -1,5 +1,5 @@
 -- Laws of places in a string or a list, and of one of two tests.
-use mathlib.Core.Path.{_≡_}
+use mathlib.Core.Path.{_≡_, refl}
 use mathlib.Core.Bool.{Bool, true, _||_}
 use mathlib.Core.List.{List, [], _∷_}
 use Prim.Native.Nat.{ℕ, zero, suc, _<_}
@@ -7,7 +7,7 @@ use native.Mathlib.Omega.{arith}
 use lib.Dec.{ltb}
 use lib.ListN.{length, getD, set}
 use lib.Seq.{getD-set-same, getD-set-other}
-use borrow.Author.Tests.{ltb-true}
+use borrow.Author.Tests.{ltb-true, lt-ltb}
 use Rattle.octets.specs.Octets.{Bytes, byteAt, allBytes}
 use Rattle.octets.proofs.Tests.{either, or-cases, and-left, and-right}
 
@@ -16,6 +16,11 @@ pub byte-below : (b : Bytes) (i : ℕ) → allBytes b ≡ true → byteAt b i < 
 byte-below [] i e = omega arith
 byte-below (x ∷ xs) zero e = ltb-true x 256 (and-left (ltb x 256) (allBytes xs) e)
 byte-below (x ∷ xs) (suc i) e = byte-below xs i (and-right (ltb x 256) (allBytes xs) e)
+
+-- Where every place holds a byte, the string is one of bytes.
+pub all-bytes : (b : Bytes) → ((i : ℕ) → byteAt b i < 256) → allBytes b ≡ true
+all-bytes [] h = refl
+all-bytes (x ∷ xs) h = rw (lt-ltb x 256 (h 0)) (all-bytes xs (λ i. h (suc i)))
 
 -- What follows from each of two tests follows from one of them.
 pub from-either : {P : Type 0} {s t : Bool} → (s ≡ true → P) → (t ≡ true → P) → (s || t) ≡ true → P

@@ -6,3 +6,6 @@ pub mod Strings
 pub mod Tests
 pub mod Words
 pub mod Parts
+pub mod Cutting
+pub mod Chains
+pub mod Image

@@ -52,7 +52,7 @@ pub length-blank : (n : ℕ) → length (blank n) ≡ n
 unfolding blank
 length-blank n = length-replicate n 0
 
-drop-zeros : (k n : ℕ) → drop k (blank n) ≡ blank (n - k)
+pub drop-zeros : (k n : ℕ) → drop k (blank n) ≡ blank (n - k)
 unfolding blank
 drop-zeros zero n = rw (sub-zero n)
 drop-zeros (suc k) zero = rw (zero-sub (suc k))

@@ -3,7 +3,7 @@
 ghost use mathlib.Core.Path.{_≡_};
 ghost use Prim.Native.Nat.{_-_, min};
 ghost use lib.ListN.{take, drop, replicate};
-ghost use Rattle.octets.specs.Octets.{word, same, allDigits, allZero, blank, filled, pasted};
+ghost use Rattle.octets.specs.Octets.{byteAt, word, same, allDigits, allZero, blank, filled, pasted};
 
 // Whether a and b are the same string, in bytes and in length.
 pub fn equal(a: &[u8], b: &[u8]) -> bool
@@ -34,6 +34,16 @@ pub fn part(s: &[u8], from: usize, n: usize) -> &[u8]
         return &s[from..];
     }
     &s[from..from + n]
+}
+
+// The byte at index i of s, or 0 where there is none.
+pub fn byte_at(s: &[u8], i: usize) -> u8
+    ensures { λ r. ⌜ r ≡ byteAt (now (s .entry)) i ⌝ }
+{
+    if i < s.len() {
+        return s[i];
+    }
+    0
 }
 
 // Whether every byte of s is a digit, 30h to 39h.
@@ -110,6 +120,12 @@ pub fn blank_12() -> [u8; 12]
     [0u8; 12]
 }
 
+pub fn blank_21() -> [u8; 21]
+    ensures { λ r. ⌜ r ≡ blank 21 ⌝ }
+{
+    [0u8; 21]
+}
+
 pub fn blank_64() -> [u8; 64]
     ensures { λ r. ⌜ r ≡ blank 64 ⌝ }
 {
@@ -135,6 +151,14 @@ pub fn filled_12(s: &[u8]) -> [u8; 12]
     let mut bytes_12 = blank_12();
     copy_at(&mut bytes_12, 0, s);
     bytes_12
+}
+
+pub fn filled_21(s: &[u8]) -> [u8; 21]
+    ensures { λ r. ⌜ r ≡ filled 21 (take 21 (now (s .entry))) ⌝ }
+{
+    let mut bytes_21 = blank_21();
+    copy_at(&mut bytes_21, 0, s);
+    bytes_21
 }
 
 pub fn filled_64(s: &[u8]) -> [u8; 64]

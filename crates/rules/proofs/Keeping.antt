@@ -1,12 +1,13 @@
 -- What a call of bytes gives, and that it keeps a good card good.
-use mathlib.Core.Path.{_≡_, refl}
+use mathlib.Core.Path.{_≡_, ap, refl}
+use mathlib.Core.Logic.{_≢_}
 use mathlib.Core.Bool.{Bool, true, not, _&&_, _||_, or-false}
 use mathlib.Core.List.{List, [], _++_}
 use Prim.Native.Nat.{ℕ, _+_, _-_, _≤_, _<_}
 use native.Mathlib.Omega.{arith}
 use lib.Dec.{eqb, leb}
 use lib.ListN.{length, drop, length-take}
-use borrow.Author.Tests.{eqb-true, leb-true, ltb-false, not-false}
+use borrow.Author.Tests.{eqb-true, eqb-false, leb-true, ltb-false, not-false, not-true}
 use Rattle.octets.specs.Octets.{Bytes, byteAt, member, allBytes}
 use Rattle.octets.proofs.Tests.{split, and-left, and-right}
 use Rattle.octets.proofs.Buffers.{byte-below}
@@ -46,19 +47,26 @@ module _ (h : Header) (parameters : goodParameters h ≡ true) where
   p2-below-three : (t : Bool) → (t && leb (h .p2) 2) ≡ true → h .p2 < 3
   p2-below-three t e = omega (arith, leb-true (h .p2) 2 (and-right t (leb (h .p2) 2) e))
 
-  verify-code : h .ins ≡ 0x20 → h .p2 < 3
+  pub verify-code : h .ins ≡ 0x20 → h .p2 < 3
   unfolding goodParameters
   verify-code i = p2-below-three (eqb (h .p1) 0x00) (simp (i, or-false) at parameters)
 
-  change-code : h .ins ≡ 0x24 → h .p2 < 3
+  pub change-code : h .ins ≡ 0x24 → h .p2 < 3
   unfolding goodParameters
   change-code i = p2-below-three (eqb (h .p1) 0x00) (simp (i, or-false) at parameters)
 
-  reset-code : h .ins ≡ 0x2C → h .p2 < 3
+  pub reset-code : h .ins ≡ 0x2C → h .p2 < 3
   unfolding goodParameters
   reset-code i = p2-below-three (leb 1 (h .p2)) (and-right (eqb (h .p1) 0x00 || eqb (h .p1) 0x03) _ (simp (i, or-false) at parameters))
 
-authenticate-length : (h : Header) → goodLengths h ≡ true → h .ins ≡ 0x88 → h .lc ≤ 245
+  -- READ RECORD counts from 1
+  pub record-number : h .ins ≡ 0xB2 → 1 ≤ h .p1
+  unfolding goodParameters
+  record-number i =
+      let some : h .p1 ≢ 0 = eqb-false (h .p1) 0 (not-true _ (and-left (not (eqb (h .p1) 0x00)) (eqb (h .p2) 0x04) (simp (i, or-false) at parameters))) in
+      omega arith
+
+pub authenticate-length : (h : Header) → goodLengths h ≡ true → h .ins ≡ 0x88 → h .lc ≤ 245
 unfolding goodLengths
 authenticate-length h lengths i = leb-true (h .lc) 245 (and-right (hasData h) (leb (h .lc) 245) (simp (i, or-false) at lengths))
 
@@ -114,14 +122,14 @@ module _ (c : Card) (g : good c ≡ true) (idle : c .session .job .kind ≡ 0) w
         (λ lengths. ownRules-keeps (not-false _ parameters) (not-false _ lengths))))))
 
 -- A command of bytes has Le at most 256.
-data FitLe : Parsed → Type 0 where
+pub data FitLe : Parsed → Type 0 where
   form : (h : Header) → h .le ≤ 256 → FitLe (Form h)
   malformed : FitLe Malformed
 
 le-most : (x : ℕ) → x < 256 → leOf x ≤ 256
 le-most x h = split (λ n. n ≤ 256) (eqb x 0x00) (λ e. omega arith) (λ e. omega arith)
 
-parse-fits : (b : Bytes) → allBytes b ≡ true → FitLe (parse b)
+pub parse-fits : (b : Bytes) → allBytes b ≡ true → FitLe (parse b)
 unfolding parse
 parse-fits b bytes =
     split FitLe (eqb (length b) 4) (λ e. form _ (omega arith))
@@ -130,6 +138,16 @@ parse-fits b bytes =
     (λ e. split FitLe (leb 1 (lcByte b) && eqb (length b) (6 + lcByte b))
     (λ e. form _ (le-most (byteAt b (length b - 1)) (byte-below b (length b - 1) bytes)))
     (λ e. malformed))))
+
+-- Le of a length form.
+leIn : Parsed → ℕ
+leIn (Form h) = h .le
+leIn Malformed = 0
+
+pub form-le : {p : Parsed} → FitLe p → (h : Header) → p ≡ Form h → h .le ≤ 256
+unfolding leIn
+form-le (form g most) h e = omega (arith, ap leIn e)
+form-le malformed h e = omega (arith, ap leIn e)
 
 module _ (c : Card) (g : good c ≡ true) (idle : c .session .job .kind ≡ 0) (b authentication signature : Bytes) where
   judgeForm-keeps : {p : Parsed} → FitLe p → KeepsCard (judgeForm c b p authentication signature)

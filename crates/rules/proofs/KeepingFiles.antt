@@ -60,6 +60,9 @@ module _ (c : Card) (g : good c ≡ true) where
       (λ e. split Short (eqb file 0x0033) (λ e. omega (arith, references-length (c .keys) (c .references) (good-references c g)))
       (λ e. personal-short n (omega (arith, count-most file))))
 
+  pub record-fits : (file n : ℕ) → n ≤ recordCount file → length (recordOf c file n) ≤ 256
+  record-fits file n h = record-short file n h .most
+
   pub readRecord-keeps : (s : Session) → goodSession (c .keys) s ≡ true → s .job .kind ≡ 0 → (h : Header) → Keeps (c .keys) (readRecord c s h)
   unfolding readRecord
   readRecord-keeps s gs idle h =
@@ -68,7 +71,7 @@ module _ (c : Card) (g : good c ≡ true) where
       split K (eqb file noFile) (λ e. sessionStatus-keeps gs refl)
       (λ e. split K (certificateFile file) (λ e. sessionStatus-keeps gs refl)
       (λ e. split K (ltb (recordCount file) (h .p1)) (λ e. sessionStatus-keeps gs refl)
-      (λ e. give-keeps (c .keys) s (h .le) (recordOf c file (h .p1)) gs idle (record-short file (h .p1) (ltb-false _ _ e) .most))))
+      (λ e. give-keeps (c .keys) s (h .le) (recordOf c file (h .p1)) gs idle (record-fits file (h .p1) (ltb-false _ _ e)))))
 
 module _ (keys : List Bool) (s : Session) (g : goodSession keys s ≡ true) (h : Header) where
   abbrev K : SessionStep → Type 0

@@ -1,0 +1,12 @@
+use mathlib.Core.Bool.{or-false, or-assoc}
+use Rattle.apdu.proofs.known_instruction.Statement.{statement}
+use Rattle.apdu.proofs.known_instruction.Tie as tie
+use Rattle.apdu.proofs.known_instruction.Reads as reads
+use Rattle.apdu.proofs.known_instruction.Lts as lts
+
+-- src/lib.rt:67:1
+returns : tie.Need-returns
+returns c = simp (or-false, or-assoc)
+
+pub known-instruction-spec : {M : Type 1} → statement M
+known-instruction-spec = tie.close (tie.spec returns)

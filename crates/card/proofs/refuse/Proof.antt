@@ -1,0 +1,22 @@
+use borrow.Author.Needs.{needs}
+use Rattle.card.proofs.refuse.Statement.{statement}
+use Rattle.card.proofs.refuse.Tie as tie
+use Rattle.card.proofs.refuse.Reads as reads
+use Rattle.card.proofs.refuse.Lts as lts
+use Rattle.answers.proofs.status.Reads as status-reads
+use Rattle.state.proofs.drop_pending.Reads as drop-pending-reads
+
+-- src/lib.rt:52:9
+status-requires : tie.Need-status-requires
+status-requires c κs = search needs
+
+-- src/lib.rt:54:15
+drop-pending-requires : tie.Need-drop-pending-requires
+drop-pending-requires c κs = search needs
+
+-- src/lib.rt:49:1
+returns : tie.Need-returns
+returns c = simp (c .before .status .ensures, c .drop-pending .ensures)
+
+pub refuse-spec : {M : Type 1} → statement M
+refuse-spec = tie.close (tie.spec status-requires drop-pending-requires returns)

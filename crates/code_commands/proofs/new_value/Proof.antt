@@ -1,0 +1,20 @@
+use mathlib.Core.Path.{_∙_}
+use denote.Ref.{now}
+use Rattle.octets.proofs.Strings.{take-rest}
+use borrow.Author.Needs.{needs}
+use Rattle.code_commands.proofs.new_value.Statement.{statement}
+use Rattle.code_commands.proofs.new_value.Tie as tie
+use Rattle.code_commands.proofs.new_value.Reads as reads
+use Rattle.code_commands.proofs.new_value.Lts as lts
+use Rattle.octets.proofs.part.Reads as part-reads
+
+-- src/lib.rt:104:5
+part-requires : tie.Need-part-requires
+part-requires c κs = search needs
+
+-- src/lib.rt:100:1
+returns : tie.Need-returns
+returns c = c .part .ensures ∙ take-rest (now (c .before .before .args .values)) (c .before .before .args .code .len)
+
+pub new-value-spec : {M : Type 1} → statement M
+new-value-spec = tie.close (tie.spec part-requires returns)

@@ -1,0 +1,127 @@
+use Rattle.code_commands.proofs.Laws.{old-wrong, new-refused, new-stored, stored-whole}
+use Rattle.rules.specs.CodeCommands.{unblockByPresentedPuk, oldValue, newValue}
+use Rattle.code_commands.specs.Judging.{judgementOf}
+use borrow.Author.Tests.{not-false}
+use mathlib.Core.Bool.{false, not}
+use lib.ListN.{take, drop}
+use Rattle.rules.specs.Codes.{codeOf, allowed, storing}
+use Rattle.rules.specs.declared.Code.{Code}
+use Rattle.rules.specs.declared.Card.{Card}
+use Rattle.octets.specs.Octets.{Bytes}
+use Prim.Native.Nat.{ℕ}
+use denote.Ref.{now}
+use mathlib.Core.Path.{_≡_, refl, sym, ap, _∙_}
+use borrow.Author.Needs.{needs}
+use Rattle.code_commands.proofs.unblock_by_presented_puk.Statement.{statement}
+use Rattle.code_commands.proofs.unblock_by_presented_puk.Tie as tie
+use Rattle.code_commands.proofs.unblock_by_presented_puk.Reads as reads
+use Rattle.code_commands.proofs.unblock_by_presented_puk.Lts as lts
+use Rattle.code_commands.proofs.disallowed.Reads as disallowed-reads
+use Rattle.code_commands.proofs.follow.Reads as follow-reads
+use Rattle.code_commands.proofs.judge.Reads as judge-reads
+use Rattle.code_commands.proofs.new_value.Reads as new-value-reads
+use Rattle.code_commands.proofs.old_value.Reads as old-value-reads
+use Rattle.code_commands.proofs.renewed.Reads as renewed-reads
+use Rattle.codes.proofs.allowed.Reads as allowed-reads
+use Rattle.codes.proofs.storing.Reads as storing-reads
+use Rattle.state.proofs.code_of.Reads as code-of-reads
+use Rattle.state.proofs.with_code.Reads as with-code-reads
+
+-- src/lib.rt:166:9
+code-of-requires : tie.Need-code-of-requires
+code-of-requires c κs = search needs
+
+-- src/lib.rt:167:41
+old-value-requires : tie.Need-old-value-requires
+old-value-requires c κs = search needs
+
+-- src/lib.rt:167:9
+judge-requires : tie.Need-judge-requires
+judge-requires c κs = search needs
+
+-- src/lib.rt:169:9
+follow-requires : tie.Need-follow-requires
+follow-requires c κs = search needs
+
+-- src/lib.rt:169:9
+returns : tie.Need-returns
+unfolding unblockByPresentedPuk
+returns c =
+    let card : Card = c .before .before .before .before .before .before .before .args .card in
+    let d : Bytes = now (c .before .before .before .before .before .before .before .args .values) in
+    let puk : c .before .before .before .before .before .code-of .result ≡ codeOf card 0 = c .before .before .before .before .before .code-of .ensures in
+    let judged : c .before .before .before .judge .result ≡ judgementOf card 0 (oldValue card 0 d) = c .before .before .before .judge .ensures ∙ ap (judgementOf card 0) (c .before .before .before .before .old-value .ensures ∙ ap (λ (v : Code). take (v .len) d) puk) in
+    c .follow .ensures ∙ old-wrong card 0 (c .before .before .before .before .before .before .before .args .pin) d _ (c .before .before .before .judge .result) judged (c .before .if1 .taken)
+
+-- src/lib.rt:171:9
+new-value-requires : tie.Need-new-value-requires
+new-value-requires c κs = search needs
+
+-- src/lib.rt:173:9
+allowed-requires : tie.Need-allowed-requires
+allowed-requires c κs = search needs
+
+-- src/lib.rt:174:9
+disallowed-requires : tie.Need-disallowed-requires
+disallowed-requires c κs = search needs
+
+-- src/lib.rt:174:9
+returns-2 : tie.Need-returns-2
+unfolding unblockByPresentedPuk
+returns-2 c =
+    let card : Card = c .before .before .before .before .before .before .before .before .before .before .args .card in
+    let d : Bytes = now (c .before .before .before .before .before .before .before .before .before .before .args .values) in
+    let puk : c .before .before .before .before .before .before .before .before .code-of .result ≡ codeOf card 0 = c .before .before .before .before .before .before .before .before .code-of .ensures in
+    let judged : c .before .before .before .before .before .before .judge .result ≡ judgementOf card 0 (oldValue card 0 d) = c .before .before .before .before .before .before .judge .ensures ∙ ap (judgementOf card 0) (c .before .before .before .before .before .before .before .old-value .ensures ∙ ap (λ (v : Code). take (v .len) d) puk) in
+    let new : now (c .before .before .before .new-value .result) ≡ newValue card 0 d = c .before .before .before .new-value .ensures ∙ ap (λ (v : Code). drop (v .len) d) puk in
+    let same-test : c .before .before .allowed .result ≡ allowed (c .before .before .before .before .before .before .before .before .before .before .args .pin) (newValue card 0 d) = c .before .before .allowed .ensures ∙ ap (allowed (c .before .before .before .before .before .before .before .before .before .before .args .pin)) new in
+    c .disallowed .ensures ∙ new-refused card 0 (c .before .before .before .before .before .before .before .before .before .before .args .pin) d _ (c .before .before .before .before .before .before .judge .result) judged (c .before .before .before .before .if1 .left) (ap not (sym same-test) ∙ c .before .if2 .taken)
+
+-- src/lib.rt:176:46
+storing-requires : tie.Need-storing-requires
+storing-requires c κs = search needs
+
+-- src/lib.rt:176:9
+with-code-requires : tie.Need-with-code-requires
+with-code-requires c κs = search needs
+
+-- src/lib.rt:178:51
+renewed-requires : tie.Need-renewed-requires
+renewed-requires c κs = search needs
+
+-- src/lib.rt:178:15
+with-code-requires-2 : tie.Need-with-code-requires-2
+with-code-requires-2 c κs = search needs
+
+-- src/lib.rt:162:1
+returns-3 : tie.Need-returns-3
+unfolding unblockByPresentedPuk
+returns-3 c =
+    let card : Card = c .before .before .before .before .before .before .before .before .before .before .before .before .before .args .card in
+    let d : Bytes = now (c .before .before .before .before .before .before .before .before .before .before .before .before .before .args .values) in
+    let puk : c .before .before .before .before .before .before .before .before .before .before .before .code-of .result ≡ codeOf card 0 = c .before .before .before .before .before .before .before .before .before .before .before .code-of .ensures in
+    let judged : c .before .before .before .before .before .before .before .before .before .judge .result ≡ judgementOf card 0 (oldValue card 0 d) = c .before .before .before .before .before .before .before .before .before .judge .ensures ∙ ap (judgementOf card 0) (c .before .before .before .before .before .before .before .before .before .before .old-value .ensures ∙ ap (λ (v : Code). take (v .len) d) puk) in
+    let new : now (c .before .before .before .before .before .before .new-value .result) ≡ newValue card 0 d = c .before .before .before .before .before .before .new-value .ensures ∙ ap (λ (v : Code). drop (v .len) d) puk in
+    let same-test : c .before .before .before .before .before .allowed .result ≡ allowed (c .before .before .before .before .before .before .before .before .before .before .before .before .before .args .pin) (newValue card 0 d) = c .before .before .before .before .before .allowed .ensures ∙ ap (allowed (c .before .before .before .before .before .before .before .before .before .before .before .before .before .args .pin)) new in
+    let fits : not (allowed (c .before .before .before .before .before .before .before .before .before .before .before .before .before .args .pin) (newValue card 0 d)) ≡ false = ap not (sym same-test) ∙ c .before .before .before .before .if2 .left in
+    simp (c .with-code2 .ensures, c .before .before .with-code .ensures, c .before .renewed .ensures, puk, c .before .before .before .storing .ensures, new, stored-whole (c .before .before .before .before .before .before .before .before .before .before .before .before .before .args .pin) (newValue card 0 d) (not-false _ fits))
+    (new-stored card 0 (c .before .before .before .before .before .before .before .before .before .before .before .before .before .args .pin) d _ (c .before .before .before .before .before .before .before .before .before .judge .result) judged (c .before .before .before .before .before .before .before .if1 .left) fits)
+
+pub unblock-by-presented-puk-spec : {M : Type 1} → statement M
+unblock-by-presented-puk-spec =
+    tie.close
+    (tie.spec
+    code-of-requires
+    old-value-requires
+    judge-requires
+    follow-requires
+    returns
+    new-value-requires
+    allowed-requires
+    disallowed-requires
+    returns-2
+    storing-requires
+    with-code-requires
+    renewed-requires
+    with-code-requires-2
+    returns-3)

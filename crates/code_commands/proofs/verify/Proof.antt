@@ -1,0 +1,32 @@
+use Rattle.code_commands.proofs.Laws.{verified-law}
+use Rattle.code_commands.specs.Judging.{judgementOf}
+use Prim.Native.Nat.{ℕ}
+use denote.Ref.{now}
+use mathlib.Core.Path.{_≡_, refl, sym, ap, _∙_}
+use borrow.Author.Needs.{needs}
+use Rattle.code_commands.proofs.verify.Statement.{statement}
+use Rattle.code_commands.proofs.verify.Tie as tie
+use Rattle.code_commands.proofs.verify.Reads as reads
+use Rattle.code_commands.proofs.verify.Lts as lts
+use Rattle.code_commands.proofs.follow.Reads as follow-reads
+use Rattle.code_commands.proofs.judge.Reads as judge-reads
+use Rattle.octets.proofs.wide.Reads as wide-reads
+
+-- src/lib.rt:78:9
+wide-requires : tie.Need-wide-requires
+wide-requires c κs = search needs
+
+-- src/lib.rt:79:12
+judge-requires : tie.Need-judge-requires
+judge-requires c κs = search needs
+
+-- src/lib.rt:79:5
+follow-requires : tie.Need-follow-requires
+follow-requires c κs = search needs
+
+-- src/lib.rt:74:1
+returns : tie.Need-returns
+returns c = c .follow .ensures ∙ verified-law (c .before .before .before .before .args .card) (c .before .before .before .before .args .h) (now (c .before .before .before .before .args .presented)) (c .before .judge .result) (c .before .judge .ensures ∙ ap (λ (k : ℕ). judgementOf (c .before .before .before .before .args .card) k (now (c .before .before .before .before .args .presented))) (c .before .before .wide .ensures))
+
+pub verify-spec : {M : Type 1} → statement M
+verify-spec = tie.close (tie.spec wide-requires judge-requires follow-requires returns)

@@ -1,0 +1,143 @@
+-- SELECT, READ RECORD, READ BINARY and GET RESPONSE: a law for each of their answers.
+use mathlib.Core.Path.{_≡_}
+use mathlib.Core.Logic.{_≢_}
+use mathlib.Core.Bool.{Bool, true, false, not, _&&_}
+use Prim.Native.Nat.{ℕ, _-_, _≤_, _<_}
+use lib.Dec.{eqb}
+use lib.ListN.{length, take, drop}
+use borrow.Author.Tests.{eq-eqb, ne-eqb, lt-ltb, le-ltb, le-leb, lt-leb}
+use Rattle.octets.specs.Octets.{Bytes, byteAt, word, member}
+use Rattle.rules.specs.declared.Card.{Card}
+use Rattle.rules.specs.declared.Session.{Session}
+use Rattle.rules.specs.declared.Header.{Header}
+use Rattle.rules.specs.Codes.{PUK, codeOf}
+use Rattle.rules.specs.Session.{root, esteidDirectory, noFile, heldBytes, withSelection, withHeld, dropHeld}
+use Rattle.rules.specs.Files.{filesIn, certificateFile, certificateOf, pukRecord, pinRecord, counterRecord, personalRecord, recordCount, recordOf}
+use Rattle.rules.specs.Answers.{response, sessionStatus, moreBytes, give}
+use Rattle.rules.specs.FileCommands.{select, readRecord, readBinary, getResponse}
+
+-- The current directory and file.
+abbrev directory : Session → ℕ
+directory s = s .selection .directory
+
+abbrev current : Session → ℕ
+current s = s .selection .file
+
+-- SELECT of the file that its data name.
+module _ (s : Session) (h : Header) (d : Bytes) where
+  pub root-chosen : h .p1 ≡ 0x00 → sessionStatus (withSelection s root noFile) 0x9000 ≡ select s h d
+  unfolding select
+  root-chosen e = simp (eq-eqb (h .p1) 0x00 e)
+
+  module _ (file : ℕ) (named : file ≡ word (byteAt d 0) (byteAt d 1)) (below-root : h .p1 ≢ 0x00) where
+    pub directory-chosen : (eqb (h .p1) 0x01 && (eqb (directory s) root && eqb file esteidDirectory)) ≡ true
+        → sessionStatus (withSelection s esteidDirectory noFile) 0x9000 ≡ select s h d
+    unfolding select
+    directory-chosen e = simp (ne-eqb (h .p1) 0x00 below-root, ← named, e)
+
+    module _ (no-directory : (eqb (h .p1) 0x01 && (eqb (directory s) root && eqb file esteidDirectory)) ≡ false)
+        (inside : Bool) (listed : inside ≡ member file (filesIn (directory s))) where
+      pub file-chosen : (eqb (h .p1) 0x02 && inside) ≡ true → sessionStatus (withSelection s (directory s) file) 0x9000 ≡ select s h d
+      unfolding select
+      file-chosen e = simp (ne-eqb (h .p1) 0x00 below-root, ← named, no-directory, ← listed, e)
+
+      pub nothing-chosen : (eqb (h .p1) 0x02 && inside) ≡ false → sessionStatus s 0x6A82 ≡ select s h d
+      unfolding select
+      nothing-chosen e = simp (ne-eqb (h .p1) 0x00 below-root, ← named, no-directory, ← listed, e)
+
+-- The records of 0016h.
+module _ (c : Card) (n : ℕ) where
+  pub puk-shown : n ≡ 3 → pukRecord (codeOf c PUK .tries) ≡ counterRecord c n
+  unfolding counterRecord
+  puk-shown e = simp (eq-eqb n 3 e)
+
+  pub pin-shown : n ≢ 3 → pinRecord (codeOf c n .tries) ≡ counterRecord c n
+  unfolding counterRecord
+  pin-shown e = simp (ne-eqb n 3 e)
+
+-- The records of each file, and how many there are.
+module _ (file : ℕ) where
+  pub counters-count : file ≡ 0x0016 → 3 ≡ recordCount file
+  unfolding recordCount
+  counters-count e = simp (eq-eqb file 0x0016 e)
+
+  pub counters-of : file ≡ 0x0016 → (c : Card) (n : ℕ) → counterRecord c n ≡ recordOf c file n
+  unfolding recordOf
+  counters-of e c n = simp (eq-eqb file 0x0016 e)
+
+  module _ (other : file ≢ 0x0016) where
+    pub references-count : file ≡ 0x0033 → 1 ≡ recordCount file
+    unfolding recordCount
+    references-count e = simp (ne-eqb file 0x0016 other, eq-eqb file 0x0033 e)
+
+    pub references-of : file ≡ 0x0033 → (c : Card) (n : ℕ) → c .references ≡ recordOf c file n
+    unfolding recordOf
+    references-of e c n = simp (ne-eqb file 0x0016 other, eq-eqb file 0x0033 e)
+
+    pub personal-count : file ≢ 0x0033 → 16 ≡ recordCount file
+    unfolding recordCount
+    personal-count e = simp (ne-eqb file 0x0016 other, ne-eqb file 0x0033 e)
+
+    pub personal-of : file ≢ 0x0033 → (c : Card) (n : ℕ) → personalRecord c n ≡ recordOf c file n
+    unfolding recordOf
+    personal-of e c n = simp (ne-eqb file 0x0016 other, ne-eqb file 0x0033 e)
+
+-- READ RECORD.
+module _ (c : Card) (s : Session) (h : Header) where
+  pub no-record-file : current s ≡ noFile → sessionStatus s 0x6986 ≡ readRecord c s h
+  unfolding readRecord
+  no-record-file e = simp (eq-eqb (current s) noFile e)
+
+  module _ (some : current s ≢ noFile) where
+    pub not-by-record : certificateFile (current s) ≡ true → sessionStatus s 0x6981 ≡ readRecord c s h
+    unfolding readRecord
+    not-by-record e = simp (ne-eqb (current s) noFile some, e)
+
+    module _ (by-record : certificateFile (current s) ≡ false) where
+      pub past-last-record : recordCount (current s) < h .p1 → sessionStatus s 0x6A83 ≡ readRecord c s h
+      unfolding readRecord
+      past-last-record e = simp (ne-eqb (current s) noFile some, by-record, lt-ltb (recordCount (current s)) (h .p1) e)
+
+      pub record-given : h .p1 ≤ recordCount (current s) → give s (h .le) (recordOf c (current s) (h .p1)) ≡ readRecord c s h
+      unfolding readRecord
+      record-given e = simp (ne-eqb (current s) noFile some, by-record, le-ltb (recordCount (current s)) (h .p1) e)
+
+-- READ BINARY of one of two certificates.
+module _ (s : Session) (h : Header) (authentication signature : Bytes) where
+  abbrev shown : Bytes
+  shown = certificateOf (current s) authentication signature
+
+  pub no-binary-file : current s ≡ noFile → sessionStatus s 0x6986 ≡ readBinary s h authentication signature
+  unfolding readBinary
+  no-binary-file e = simp (eq-eqb (current s) noFile e)
+
+  module _ (some : current s ≢ noFile) where
+    pub not-as-bytes : not (certificateFile (current s)) ≡ true → sessionStatus s 0x6981 ≡ readBinary s h authentication signature
+    unfolding readBinary
+    not-as-bytes e = simp (ne-eqb (current s) noFile some, e)
+
+    module _ (as-bytes : not (certificateFile (current s)) ≡ false) where
+      pub offset-past-end : length shown ≤ word (h .p1) (h .p2) → sessionStatus s 0x6B00 ≡ readBinary s h authentication signature
+      unfolding readBinary
+      offset-past-end e = simp (ne-eqb (current s) noFile some, as-bytes, le-leb (length shown) (word (h .p1) (h .p2)) e)
+
+      pub part-read : word (h .p1) (h .p2) < length shown
+          → record { session = s; answer = response (take (h .le) (drop (word (h .p1) (h .p2)) shown)) 0x9000 } ≡ readBinary s h authentication signature
+      unfolding readBinary
+      part-read e = simp (ne-eqb (current s) noFile some, as-bytes, lt-leb (length shown) (word (h .p1) (h .p2)) e)
+
+-- GET RESPONSE from what is held.
+module _ (s : Session) (h : Header) (d : Bytes) (held : d ≡ heldBytes s) where
+  pub nothing-held : length d ≡ 0 → sessionStatus (dropHeld s) 0x6985 ≡ getResponse s h
+  unfolding getResponse
+  nothing-held e = simp (← held, eq-eqb (length d) 0 e)
+
+  module _ (some : length d ≢ 0) where
+    pub all-given : length d ≤ h .le → record { session = dropHeld s; answer = response d 0x9000 } ≡ getResponse s h
+    unfolding getResponse
+    all-given e = simp (← held, ne-eqb (length d) 0 some, le-leb (length d) (h .le) e)
+
+    pub first-given : h .le < length d
+        → record { session = withHeld s (drop (h .le) d); answer = response (take (h .le) d) (moreBytes (length d - h .le)) } ≡ getResponse s h
+    unfolding getResponse
+    first-given e = simp (← held, ne-eqb (length d) 0 some, lt-leb (length d) (h .le) e)

@@ -1,0 +1,67 @@
+use mathlib.Core.Path.{_≡_, ap, _∙_}
+use lib.ListN.{take}
+use borrow.Author.Needs.{needs}
+use Rattle.octets.specs.Octets.{Bytes}
+use Rattle.rules.specs.declared.Code.{Code}
+use Rattle.rules.specs.Codes.{codeOf}
+use Rattle.rules.specs.Files.{pukRecord, pinRecord, counterRecord}
+use Rattle.rules.specs.Answers.{give}
+use Rattle.file_commands.proofs.Laws.{puk-shown, pin-shown}
+use Rattle.file_commands.proofs.give_counter.Statement.{statement}
+use Rattle.file_commands.proofs.give_counter.Tie as tie
+
+code-of-requires : tie.Need-code-of-requires
+code-of-requires c κs = search needs
+
+puk-record-requires : tie.Need-puk-record-requires
+puk-record-requires c κs = search needs
+
+slice-aggregate-give : tie.Need-slice-aggregate-give
+slice-aggregate-give c = search needs
+
+give-requires : tie.Need-give-requires
+give-requires c κs = search needs
+
+returns : tie.Need-returns
+returns c =
+    let a = c .before .before .before .before .before .args in
+    let shown : c .before .before .puk-record .result ≡ counterRecord (a .card) (a .n) = c .before .before .puk-record .ensures ∙ ap (λ (v : Code). pukRecord (v .tries)) (c .before .before .before .code-of .ensures) ∙ puk-shown (a .card) (a .n) (c .before .before .before .before .if1 .taken) in
+    c .give .ensures ∙ ap (λ (d : Bytes). give (a .s) (a .le) (take 256 d)) shown
+
+wide-requires : tie.Need-wide-requires
+wide-requires c κs = search needs
+
+code-of-requires-2 : tie.Need-code-of-requires-2
+code-of-requires-2 c κs = search needs
+
+pin-record-requires : tie.Need-pin-record-requires
+pin-record-requires c κs = search needs
+
+slice-aggregate-give-2 : tie.Need-slice-aggregate-give-2
+slice-aggregate-give-2 c = search needs
+
+give-requires-2 : tie.Need-give-requires-2
+give-requires-2 c κs = search needs
+
+returns-2 : tie.Need-returns-2
+returns-2 c =
+    let a = c .before .before .before .before .before .before .args in
+    let pin : c .before .before .before .code-of2 .result ≡ codeOf (a .card) (a .n) = c .before .before .before .code-of2 .ensures ∙ ap (codeOf (a .card)) (c .before .before .before .before .wide .ensures) in
+    let shown : c .before .before .pin-record .result ≡ counterRecord (a .card) (a .n) = c .before .before .pin-record .ensures ∙ ap (λ (v : Code). pinRecord (v .tries)) pin ∙ pin-shown (a .card) (a .n) (c .before .before .before .before .before .if1 .left) in
+    c .give2 .ensures ∙ ap (λ (d : Bytes). give (a .s) (a .le) (take 256 d)) shown
+
+pub give-counter-spec : {M : Type 1} → statement M
+give-counter-spec =
+    tie.close
+    (tie.spec
+    code-of-requires
+    puk-record-requires
+    slice-aggregate-give
+    give-requires
+    returns
+    wide-requires
+    code-of-requires-2
+    pin-record-requires
+    slice-aggregate-give-2
+    give-requires-2
+    returns-2)

@@ -1,0 +1,38 @@
+use mathlib.Core.Path.{ap, _∙_}
+use Prim.Native.Nat.{ℕ}
+use lib.ListN.{take}
+use borrow.Author.Needs.{needs}
+use Rattle.rules.specs.Files.{personalRecord}
+use Rattle.rules.specs.Answers.{give}
+use Rattle.file_commands.proofs.give_personal.Statement.{statement}
+use Rattle.file_commands.proofs.give_personal.Tie as tie
+
+wide-requires : tie.Need-wide-requires
+wide-requires c κs = search needs
+
+sub-at : tie.Need-sub-at
+sub-at c = search needs
+
+mul-stored : tie.Need-mul-stored
+mul-stored c = search needs
+
+element-copy-out-stored : tie.Need-element-copy-out-stored
+element-copy-out-stored c = search needs
+
+give-contents-requires : tie.Need-give-contents-requires
+give-contents-requires c κs = search needs
+
+returns : tie.Need-returns
+unfolding personalRecord
+returns c = c .give-contents .ensures ∙ ap (λ (k : ℕ). give (c .before .before .before .args .s) (c .before .before .before .args .le) (take 256 (personalRecord (c .before .before .before .args .t1) k))) (c .before .before .wide .ensures)
+
+pub give-personal-spec : {M : Type 1} → statement M
+give-personal-spec =
+    tie.close
+    (tie.spec
+    wide-requires
+    sub-at
+    mul-stored
+    element-copy-out-stored
+    give-contents-requires
+    returns)

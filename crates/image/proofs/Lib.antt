@@ -1,0 +1,6 @@
+pub mod Readers
+pub mod Codes
+pub mod Keys
+pub mod References
+pub mod Records
+pub mod Loading

@@ -1,0 +1,17 @@
+use mathlib.Core.Path.{_∙_}
+use native.Mathlib.Omega.{arith}
+use denote.Ref.{now}
+use Rattle.rules.specs.declared.Fault.the-variants.{EndsEarly}
+use Rattle.image.proofs.Readers.{any-bytes-law}
+use borrow.Author.Needs.{needs}
+use Rattle.image.proofs.any_bytes.Statement.{statement}
+use Rattle.image.proofs.any_bytes.Tie as tie
+
+run-requires : tie.Need-run-requires
+run-requires c κs = search needs
+
+returns : tie.Need-returns
+returns c = c .run .ensures ∙ any-bytes-law EndsEarly (now (c .before .before .args .image)) (c .before .before .args .cursor) (c .before .before .args .n) (λ i. omega (arith, c .before .shared-slice-known .given i))
+
+pub any-bytes-spec : {M : Type 1} → statement M
+any-bytes-spec = tie.close (tie.spec run-requires returns)

@@ -1,0 +1,61 @@
+use mathlib.Core.Path.{_≡_, _∙_}
+use Prim.Native.Nat.{_-_, _≤_}
+use native.Mathlib.Omega.{arith}
+use borrow.Author.Needs.{needs}
+use lib.ListN.{length, take, length-set}
+use denote.Ref.{now}
+use Rattle.rules.specs.Image.{readRecords}
+use Rattle.image.specs.Positions.{from}
+use Rattle.image.proofs.Records.{recordsFrom, no-record-yet, one-record-more, no-record-more}
+use Rattle.image.proofs.read_records.Statement.{statement}
+use Rattle.image.proofs.read_records.Tie as tie
+
+abbrev Inv-loop : tie.InvT-loop
+Inv-loop image personal₀ there₀ i₀ personal there i =
+    (i ≤ 16) × (length personal ≡ 16) × (from image there (recordsFrom (take i personal) (16 - i)) ≡ from image there₀ (readRecords 16))
+
+abbrev μ-loop : tie.MeasureT-loop
+μ-loop image personal₀ there₀ i₀ personal there i = 16 - i
+
+zero-records-requires : tie.Need-zero-records-requires Inv-loop μ-loop
+zero-records-requires c κs = search needs
+
+loop-holds : tie.Need-loop-holds Inv-loop μ-loop
+loop-holds c = (omega arith, rw (c .zero-records .ensures), no-record-yet (now (c .before .before .args .image)) (c .zero-records .result) (c .before .before .args .cursor))
+
+read-record-requires : tie.Need-read-record-requires Inv-loop μ-loop
+read-record-requires c κs = search needs
+
+mul-personal : tie.Need-mul-personal Inv-loop μ-loop
+mul-personal c = search needs
+
+array-set-from-personal : tie.Need-array-set-from-personal Inv-loop μ-loop
+array-set-from-personal c = search needs
+
+add-i : tie.Need-add-i Inv-loop μ-loop
+add-i c = omega arith
+
+loop-less : tie.Need-loop-less Inv-loop μ-loop
+loop-less c = omega arith
+
+loop-again : tie.Need-loop-again Inv-loop μ-loop
+loop-again c = (omega arith, simp length-set (c .before .before .before .loop .inv .1), one-record-more (now (c .before .before .before .before .before .before .args .image)) (c .before .before .before .loop .personal) (c .before .before .before .loop .i) (c .before .before .before .loop .inv .1) _ _ _ (c .before .read-record .ensures) (omega arith) ∙ c .before .before .before .loop .inv .2)
+
+returns : tie.Need-returns Inv-loop μ-loop
+returns c = no-record-more (now (c .before .before .before .before .args .image)) (c .before .loop .personal) (c .before .loop .i) (c .before .loop .inv .1) _ (omega arith) ∙ c .before .loop .inv .2
+
+pub read-records-spec : {M : Type 1} → statement M
+read-records-spec =
+    tie.close
+    (tie.spec
+    Inv-loop
+    μ-loop
+    zero-records-requires
+    loop-holds
+    read-record-requires
+    mul-personal
+    array-set-from-personal
+    add-i
+    loop-less
+    loop-again
+    returns)

@@ -1,0 +1,70 @@
+use mathlib.Core.Path.{_≡_, ap, _∙_}
+use mathlib.Core.Bool.{Bool}
+use mathlib.Core.List.{List}
+use Prim.Native.Nat.{ℕ}
+use lib.ListN.{take, drop}
+use denote.Ref.{now}
+use Rattle.octets.specs.Octets.{Bytes, filled}
+use Rattle.image.specs.declared.Cursor.{Cursor}
+use Rattle.image.specs.Positions.{positionOf}
+use Rattle.image.proofs.References.{references-read}
+use borrow.Author.Needs.{needs}
+use Rattle.image.proofs.reference_section.Statement.{statement}
+use Rattle.image.proofs.reference_section.Tie as tie
+
+count-requires : tie.Need-count-requires
+count-requires c κs = search needs
+
+any-bytes-requires : tie.Need-any-bytes-requires
+any-bytes-requires c κs = search needs
+
+position-requires : tie.Need-position-requires
+position-requires c κs = search needs
+
+part-requires : tie.Need-part-requires
+part-requires c κs = search needs
+
+filled-21-requires : tie.Need-filled-21-requires
+filled-21-requires c κs = search needs
+
+active-key-requires : tie.Need-active-key-requires
+active-key-requires c κs = search needs
+
+usable-requires : tie.Need-usable-requires
+usable-requires c κs = search needs
+
+active-key-requires-2 : tie.Need-active-key-requires-2
+active-key-requires-2 c κs = search needs
+
+usable-requires-2 : tie.Need-usable-requires-2
+usable-requires-2 c κs = search needs
+
+judged-requires : tie.Need-judged-requires
+judged-requires c κs = search needs
+
+returns : tie.Need-returns
+returns c =
+    let image : Bytes = now (c .before .before .before .before .before .before .before .before .before .before .before .args .image) in
+    let keys : List Bool = c .before .before .before .before .before .before .before .before .before .before .before .args .keys in
+    let first : Cursor = c .before .before .before .before .before .before .before .before .before .count .result in
+    let d : Bytes = take 21 (drop (positionOf first) image) in
+    let bytes : now (c .before .before .before .before .before .before .part .result) ≡ d = c .before .before .before .before .before .before .part .ensures ∙ ap (λ (at : ℕ). take 21 (drop at image)) (c .before .before .before .before .before .before .before .position .ensures) in
+    let references : c .before .before .before .before .before .filled-21 .result ≡ filled 21 (take 21 d) = c .before .before .before .before .before .filled-21 .ensures ∙ ap (λ (b : Bytes). filled 21 (take 21 b)) bytes in
+    simp (c .judged .ensures, c .before .before .before .usable .ensures, c .before .usable2 .ensures, c .before .before .before .before .active-key .ensures, c .before .before .active-key2 .ensures, references)
+    (references-read image keys (c .before .before .before .before .before .before .before .before .before .before .before .args .cursor) first (c .before .before .before .before .before .before .before .before .any-bytes .result) d (c .before .before .before .before .before .before .before .before .before .count .ensures) (c .before .before .before .before .before .before .before .before .any-bytes .ensures))
+
+pub reference-section-spec : {M : Type 1} → statement M
+reference-section-spec =
+    tie.close
+    (tie.spec
+    count-requires
+    any-bytes-requires
+    position-requires
+    part-requires
+    filled-21-requires
+    active-key-requires
+    usable-requires
+    active-key-requires-2
+    usable-requires-2
+    judged-requires
+    returns)

@@ -1,0 +1,35 @@
+-- The rule book's readings, followed by a cursor through the image.
+use Prim.Native.Nat.{ℕ}
+use mathlib.Core.Bool.{Bool, cond}
+use lib.ListN.{length, drop}
+use lib.Dec.{ltb}
+use Rattle.octets.specs.Octets.{Bytes, byteAt}
+use Rattle.rules.specs.declared.Fault.{Fault}
+use Rattle.rules.specs.Image.{Read, fault, Reader, pure}
+use Rattle.image.specs.declared.NextByte.{NextByte}
+use Rattle.image.specs.declared.NextByte.the-variants.{Byte, End}
+use Rattle.image.specs.declared.Cursor.{Cursor}
+use Rattle.image.specs.declared.Cursor.the-variants.{At, Stopped}
+
+-- What stands at a position.
+unfoldable pub nextAt : Bytes → ℕ → NextByte
+nextAt image at = cond (ltb at (length image)) (Byte (byteAt image at)) End
+
+-- What a reader gives from the cursor on: the first fault stays.
+unfoldable pub from : {A : Type 0} → Bytes → Cursor → Reader A → Read A
+from image (At at) reader = reader (drop at image)
+from image (Stopped f) reader = fault f
+
+-- What was read up to the cursor.
+abbrev pub upTo : {A : Type 0} → Bytes → Cursor → A → Read A
+upTo image cursor a = from image cursor (pure a)
+
+-- The cursor's position; 0 where reading has stopped.
+unfoldable pub positionOf : Cursor → ℕ
+positionOf (At at) = at
+positionOf (Stopped f) = 0
+
+-- The cursor after a test that reads nothing.
+unfoldable pub judged : Cursor → Bool → Fault → Cursor
+judged (At at) test f = cond test (At at) (Stopped f)
+judged (Stopped first) test f = Stopped first

@@ -1,0 +1,4 @@
+pub mod Environments
+pub mod Jobs
+pub mod Ciphers
+pub mod Deliveries

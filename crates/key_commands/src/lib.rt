@@ -1,0 +1,269 @@
+// MANAGE SECURITY ENVIRONMENT, INTERNAL AUTHENTICATE, SIGN and DECIPHER, and the delivery of a job's result, as functions of values.
+use answers::Output;
+use rules::Card;
+use rules::Code;
+use rules::Header;
+use rules::Job;
+use rules::JobKind;
+use rules::Session;
+use session_steps::SessionOutput;
+ghost use mathlib.Core.Path.{_≡_};
+ghost use Prim.Native.Nat.{_≤_};
+ghost use mathlib.Core.List.{_++_};
+ghost use lib.ListN.{length, take, drop};
+ghost use Rattle.octets.specs.Octets.{filled};
+ghost use Rattle.pkcs1.specs.Pkcs1.{padded};
+ghost use Rattle.rules.specs.Keys.{keyFor};
+ghost use Rattle.rules.specs.Session.{chainBytes, withSession};
+ghost use Rattle.rules.specs.Answers.{status};
+ghost use Rattle.rules.specs.KeyCommands.{setEnvironment, kindChosen, choosing, chooseKey, internalAuthenticate, sign, decipher};
+ghost use Rattle.rules.specs.Delivery.{deliver};
+ghost use Rattle.session_steps.specs.Steps.{sessionStepOf};
+ghost use Rattle.key_commands.specs.Steps.{namesKey, decipherWhole, cardStepOf};
+
+// 22 F3: environment 1 or 6, with all key choices at "active".
+pub fn set_environment(s: Session, h: Header) -> SessionOutput
+    ensures { λ r. ⌜ sessionStepOf r ≡ setEnvironment s h ⌝ }
+{
+    let number = h.p2;
+    if (number == 1) | (number == 6) {
+        let next = state::with_environment(s, number, [0u16; 3]);
+        return session_steps::session_status(next, 0x9000);
+    }
+    session_steps::session_status(s, 0x6A88)
+}
+
+// The kind of job that P2 of 22 41 names.
+fn kind_chosen(p2: u8) -> u8
+    ensures { λ r. ⌜ r ≡ kindChosen p2 ⌝ }
+{
+    match p2 {
+        0xA4 => 1,
+        0xB6 => 2,
+        _ => 3,
+    }
+}
+
+// The session with another key choice for the kind of job that P2 names; 0 is "active".
+fn choosing(s: Session, p2: u8, key: u16) -> Session
+    ensures { λ r. ⌜ r ≡ choosing s (kindChosen p2) key ⌝ }
+{
+    let environment = s.environment;
+    let mut choices = environment.choices;
+    let place = octets::wide(kind_chosen(p2)) - 1;
+    choices[place] = key;
+    state::with_environment(s, environment.number, choices)
+}
+
+// Whether the data of 22 41 has the shape that names a key: 83 03 80 and two bytes.
+fn names_key(d: &[u8]) -> bool
+    ensures { λ r. ⌜ r ≡ namesKey (now (d .entry)) ⌝ }
+{
+    let heading = octets::equal(octets::part(d, 0, 3), b"\x83\x03\x80");
+    (d.len() == 5) & heading
+}
+
+// 22 41: chooses the active key or a key by its reference, for the jobs of one kind.
+pub fn choose_key(card: Card, s: Session, h: Header, d: &[u8]) -> SessionOutput
+    ensures { λ r. ⌜ sessionStepOf r ≡ chooseKey card s h (now (d .entry)) ⌝ }
+{
+    if octets::equal(d, b"\x83\x00") {
+        return session_steps::session_status(choosing(s, h.p2, 0), 0x9000);
+    }
+    if !names_key(d) {
+        return session_steps::session_status(s, 0x6A80);
+    }
+    let key = octets::word(octets::byte_at(d, 3), octets::byte_at(d, 4));
+    if !keys::of_class(kind_chosen(h.p2), key) {
+        return session_steps::session_status(s, 0x6A80);
+    }
+    let keys = card.keys;
+    if !keys::present(keys, key) {
+        return session_steps::session_status(s, 0x6A88);
+    }
+    session_steps::session_status(choosing(s, h.p2, key), 0x9000)
+}
+
+// The key that a job of a kind takes: the chosen one, or the active one of its class.
+fn key_for(card: Card, s: Session, kind: u8) -> u16
+    requires { ⌜ (1 ≤ kind) × (kind ≤ 3) ⌝ }
+    ensures { λ r. ⌜ r ≡ keyFor card s kind ⌝ }
+{
+    let environment = s.environment;
+    let choices = environment.choices;
+    let place = octets::wide(kind) - 1;
+    let choice = choices[place];
+    if choice != 0 {
+        return choice;
+    }
+    let references = card.references;
+    keys::active_key(references, kind)
+}
+
+// The padded block of a job.
+fn padded_block(d: &[u8]) -> [u8; 256]
+    requires { ⌜ length (now d) ≤ 245 ⌝ }
+    ensures { λ r. ⌜ r ≡ padded (now (d .entry)) ⌝ }
+{
+    let mut block = octets::blank_256();
+    pkcs1::shoalpennant_pad(d, &mut block);
+    block
+}
+
+// 88 INTERNAL AUTHENTICATE.
+pub fn internal_authenticate(card: Card, s: Session, h: Header, d: &[u8]) -> SessionOutput
+    requires { ⌜ length (now d) ≤ 245 ⌝ }
+    ensures { λ r. ⌜ sessionStepOf r ≡ internalAuthenticate card s h (now (d .entry)) ⌝ }
+{
+    if s.environment.number != 1 {
+        return session_steps::session_status(s, 0x6985);
+    }
+    let pin1 = state::code_of(card, Code::PIN1);
+    if !pin1.verified {
+        return session_steps::session_status(s, 0x6982);
+    }
+    let key = key_for(card, s, 1);
+    let block = padded_block(d);
+    session_steps::hand_out(s, JobKind::Authenticate, key, h.le, block)
+}
+
+// The next card and the answer.
+pub struct CardOutput {
+    pub card: Card,
+    pub output: Output,
+}
+
+// A status word alone.
+fn turned_down(card: Card, s: Session, sw: u16) -> CardOutput
+    ensures { λ r. ⌜ cardStepOf r ≡ status (withSession card s) sw ⌝ }
+{
+    let next = state::with_session(card, s);
+    let output = answers::status(sw);
+    CardOutput {
+        card: next,
+        output: output,
+    }
+}
+
+// 2A 9E 9A SIGN: PIN2's mark goes off as the job is handed out.
+pub fn sign(card: Card, s: Session, h: Header, d: &[u8]) -> CardOutput
+    ensures { λ r. ⌜ cardStepOf r ≡ sign card s h (now (d .entry)) ⌝ }
+{
+    if !digests::is_digest(d) {
+        return turned_down(card, s, 0x6A80);
+    }
+    if s.environment.number != 1 {
+        return turned_down(card, s, 0x6985);
+    }
+    let pin2 = state::code_of(card, Code::PIN2);
+    if !pin2.verified {
+        return turned_down(card, s, 0x6982);
+    }
+    let key = key_for(card, s, 2);
+    let block = padded_block(d);
+    let handed = session_steps::hand_out(s, JobKind::Sign, key, h.le, block);
+    let session = handed.session;
+    let output = handed.output;
+    let next = state::with_session(state::closed(card, Code::PIN2), session);
+    CardOutput {
+        card: next,
+        output: output,
+    }
+}
+
+// The chain and then d, or as much of both as fits, with zeros after it.
+fn joined(s: Session, d: &[u8]) -> [u8; 257]
+    ensures { λ r. ⌜ r ≡ filled 257 (take 257 (chainBytes s ++ now (d .entry))) ⌝ }
+{
+    let chain = s.chain;
+    let bytes = chain.bytes;
+    let len = chain.len;
+    let before = octets::part(&bytes, 0, len);
+    let mut both = octets::filled_257(before);
+    octets::copy_at(&mut both, before.len(), d);
+    both
+}
+
+// How many bytes the chain has.
+fn chain_length(s: Session) -> usize
+    ensures { λ r. ⌜ (r ≡ length (chainBytes s)) × (r ≤ 257) ⌝ }
+{
+    let chain = s.chain;
+    let bytes = chain.bytes;
+    let len = chain.len;
+    octets::part(&bytes, 0, len).len()
+}
+
+// The block of a cryptogram: all but its first byte.
+fn last_256(cryptogram: [u8; 257]) -> [u8; 256]
+    ensures { λ r. ⌜ r ≡ drop 1 cryptogram ⌝ }
+{
+    octets::filled_256(octets::part(&cryptogram, 1, 256))
+}
+
+// DECIPHER of a whole cryptogram: a byte 00 and 256 more.
+fn decipher_whole(card: Card, s: Session, h: Header, cryptogram: [u8; 257]) -> SessionOutput
+    ensures { λ r. ⌜ sessionStepOf r ≡ decipherWhole card s h cryptogram ⌝ }
+{
+    let emptied = state::drop_chain(s);
+    if cryptogram[0] != 0x00 {
+        return session_steps::session_status(emptied, 0x6A80);
+    }
+    if s.environment.number != 6 {
+        return session_steps::session_status(emptied, 0x6985);
+    }
+    let pin1 = state::code_of(card, Code::PIN1);
+    if !pin1.verified {
+        return session_steps::session_status(emptied, 0x6982);
+    }
+    let key = key_for(card, s, 3);
+    let block = last_256(cryptogram);
+    session_steps::hand_out(emptied, JobKind::Decipher, key, h.le, block)
+}
+
+// 2A 80 86 DECIPHER: joins the chain, and takes a whole cryptogram.
+pub fn decipher(card: Card, s: Session, h: Header, d: &[u8]) -> SessionOutput
+    ensures { λ r. ⌜ sessionStepOf r ≡ decipher card s h (now (d .entry)) ⌝ }
+{
+    let before = chain_length(s);
+    if 257 - before < d.len() {
+        return session_steps::session_status(state::drop_chain(s), 0x6700);
+    }
+    let len = before + d.len();
+    let both = joined(s, d);
+    if h.cla == 0x10 {
+        let next = state::with_chain(s, octets::part(&both, 0, len));
+        return session_steps::session_status(next, 0x9000);
+    }
+    if len != 257 {
+        return session_steps::session_status(state::drop_chain(s), 0x6700);
+    }
+    decipher_whole(card, s, h, both)
+}
+
+// A delivered result ends the job.
+pub fn deliver(s: Session, result: &[u8]) -> SessionOutput
+    ensures { λ r. ⌜ sessionStepOf r ≡ deliver s (now (result .entry)) ⌝ }
+{
+    let none = Job {
+        kind: 0,
+        key: 0,
+        le: 0,
+    };
+    let ended = state::with_job(s, none);
+    let le = s.job.le;
+    if result.len() != 256 {
+        return session_steps::session_status(ended, 0x6400);
+    }
+    if s.job.kind != 3 {
+        return session_steps::give(ended, le, result);
+    }
+    let start = pkcs1::shoalpennant_strip(result);
+    if start == 0 {
+        return session_steps::session_status(ended, 0x6A80);
+    }
+    if start == 256 {
+        return session_steps::session_status(ended, 0x9000);
+    }
+    session_steps::give(ended, le, octets::part(result, start, 256))
+}

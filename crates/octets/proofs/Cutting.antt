@@ -1,0 +1,20 @@
+-- Laws of strings that are too short to be cut.
+use mathlib.Core.Path.{_≡_, _∙_}
+use Prim.Native.Nat.{ℕ, _≤_}
+use native.Mathlib.Omega.{arith}
+use lib.ListN.{length, take, drop, length-take, length-drop}
+use lib.Seq.{take-all}
+use Rattle.octets.specs.Octets.{Bytes}
+use Rattle.octets.proofs.Strings.{take-rest}
+
+-- The first n bytes are not cut at m, where n is at most m.
+pub uncut-first : (m n : ℕ) (b : Bytes) → n ≤ m → take m (take n b) ≡ take n b
+uncut-first m n b h = take-all m (take n b) (omega (arith, length-take n b))
+
+-- The two sides of a place in a string of at most m bytes.
+module _ (m : ℕ) (b : Bytes) (h : length b ≤ m) (at : ℕ) where
+  pub uncut-front : take m (take at b) ≡ take at b
+  uncut-front = take-all m (take at b) (omega (arith, length-take at b))
+
+  pub uncut-rest : take m (take (length b) (drop at b)) ≡ drop at b
+  uncut-rest = rw (take-rest b at) (take-all m (drop at b) (omega (arith, length-drop at b)))

@@ -1,0 +1,17 @@
+use borrow.Author.Needs.{needs}
+use Rattle.session_steps.proofs.session_status.Statement.{statement}
+use Rattle.session_steps.proofs.session_status.Tie as tie
+use Rattle.session_steps.proofs.session_status.Reads as reads
+use Rattle.session_steps.proofs.session_status.Lts as lts
+use Rattle.answers.proofs.status.Reads as status-reads
+
+-- src/lib.rt:22:9
+status-requires : tie.Need-status-requires
+status-requires c κs = search needs
+
+-- src/lib.rt:19:1
+returns : tie.Need-returns
+returns c = simp (c .status .ensures)
+
+pub session-status-spec : {M : Type 1} → statement M
+session-status-spec = tie.close (tie.spec status-requires returns)

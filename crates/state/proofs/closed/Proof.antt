@@ -1,0 +1,22 @@
+use borrow.Author.Needs.{needs}
+use Rattle.state.proofs.closed.Statement.{statement}
+use Rattle.state.proofs.closed.Tie as tie
+use Rattle.state.proofs.closed.Reads as reads
+use Rattle.state.proofs.closed.Lts as lts
+use Rattle.state.proofs.code_of.Reads as code-of-reads
+use Rattle.state.proofs.with_code.Reads as with-code-reads
+
+-- src/lib.rt:43:9
+code-of-requires : tie.Need-code-of-requires
+code-of-requires c κs = search needs
+
+-- src/lib.rt:45:5
+with-code-requires : tie.Need-with-code-requires
+with-code-requires c κs = search needs
+
+-- src/lib.rt:39:1
+returns : tie.Need-returns
+returns c = simp (c .with-code .ensures, c .before .code-of .ensures)
+
+pub closed-spec : {M : Type 1} → statement M
+closed-spec = tie.close (tie.spec code-of-requires with-code-requires returns)

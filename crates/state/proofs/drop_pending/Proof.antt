@@ -1,0 +1,28 @@
+use borrow.Author.Needs.{needs}
+use Rattle.state.proofs.drop_pending.Statement.{statement}
+use Rattle.state.proofs.drop_pending.Tie as tie
+use Rattle.state.proofs.drop_pending.Reads as reads
+use Rattle.state.proofs.drop_pending.Lts as lts
+use Rattle.state.proofs.drop_chain.Reads as drop-chain-reads
+use Rattle.state.proofs.drop_held.Reads as drop-held-reads
+use Rattle.state.proofs.with_session.Reads as with-session-reads
+
+-- src/lib.rt:168:34
+drop-chain-requires : tie.Need-drop-chain-requires
+drop-chain-requires c κs = search needs
+
+-- src/lib.rt:168:24
+drop-held-requires : tie.Need-drop-held-requires
+drop-held-requires c κs = search needs
+
+-- src/lib.rt:168:5
+with-session-requires : tie.Need-with-session-requires
+with-session-requires c κs = search needs
+
+-- src/lib.rt:164:1
+returns : tie.Need-returns
+returns c = simp (c .with-session .ensures, c .before .drop-held .ensures, c .before .before .drop-chain .ensures)
+
+pub drop-pending-spec : {M : Type 1} → statement M
+drop-pending-spec =
+    tie.close (tie.spec drop-chain-requires drop-held-requires with-session-requires returns)

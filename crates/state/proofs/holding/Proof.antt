@@ -1,0 +1,30 @@
+use Rattle.octets.proofs.Strings.{take-twice}
+use Rattle.octets.specs.Octets.{Bytes}
+use lib.ListN.{take}
+use denote.Ref.{now}
+use mathlib.Core.Path.{_≡_}
+use borrow.Author.Needs.{needs}
+use Rattle.state.proofs.holding.Statement.{statement}
+use Rattle.state.proofs.holding.Tie as tie
+use Rattle.state.proofs.holding.Reads as reads
+use Rattle.state.proofs.holding.Lts as lts
+use Rattle.octets.proofs.filled_256.Reads as filled-256-reads
+use Rattle.octets.proofs.part.Reads as part-reads
+
+-- src/lib.rt:52:9
+part-requires : tie.Need-part-requires
+part-requires c κs = search needs
+
+-- src/lib.rt:54:16
+filled-256-requires : tie.Need-filled-256-requires
+filled-256-requires c κs = search needs
+
+-- src/lib.rt:49:1
+returns : tie.Need-returns
+returns c =
+    let d : Bytes = now (c .before .before .before .args .d) in
+    let kept : now (c .before .part .result) ≡ take 256 d = c .before .part .ensures in
+    simp (c .filled-256 .ensures, kept, take-twice 256 d)
+
+pub holding-spec : {M : Type 1} → statement M
+holding-spec = tie.close (tie.spec part-requires filled-256-requires returns)

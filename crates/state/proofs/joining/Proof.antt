@@ -1,0 +1,30 @@
+use Rattle.octets.proofs.Strings.{take-twice}
+use Rattle.octets.specs.Octets.{Bytes}
+use lib.ListN.{take}
+use denote.Ref.{now}
+use mathlib.Core.Path.{_≡_}
+use borrow.Author.Needs.{needs}
+use Rattle.state.proofs.joining.Statement.{statement}
+use Rattle.state.proofs.joining.Tie as tie
+use Rattle.state.proofs.joining.Reads as reads
+use Rattle.state.proofs.joining.Lts as lts
+use Rattle.octets.proofs.filled_257.Reads as filled-257-reads
+use Rattle.octets.proofs.part.Reads as part-reads
+
+-- src/lib.rt:62:9
+part-requires : tie.Need-part-requires
+part-requires c κs = search needs
+
+-- src/lib.rt:64:16
+filled-257-requires : tie.Need-filled-257-requires
+filled-257-requires c κs = search needs
+
+-- src/lib.rt:59:1
+returns : tie.Need-returns
+returns c =
+    let d : Bytes = now (c .before .before .before .args .d) in
+    let kept : now (c .before .part .result) ≡ take 257 d = c .before .part .ensures in
+    simp (c .filled-257 .ensures, kept, take-twice 257 d)
+
+pub joining-spec : {M : Type 1} → statement M
+joining-spec = tie.close (tie.spec part-requires filled-257-requires returns)

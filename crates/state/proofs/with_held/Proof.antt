@@ -1,0 +1,17 @@
+use borrow.Author.Needs.{needs}
+use Rattle.state.proofs.with_held.Statement.{statement}
+use Rattle.state.proofs.with_held.Tie as tie
+use Rattle.state.proofs.with_held.Reads as reads
+use Rattle.state.proofs.with_held.Lts as lts
+use Rattle.state.proofs.holding.Reads as holding-reads
+
+-- src/lib.rt:95:9
+holding-requires : tie.Need-holding-requires
+holding-requires c κs = search needs
+
+-- src/lib.rt:92:1
+returns : tie.Need-returns
+returns c = simp (c .holding .ensures)
+
+pub with-held-spec : {M : Type 1} → statement M
+with-held-spec = tie.close (tie.spec holding-requires returns)

@@ -1,0 +1,176 @@
+// Parts of the card state, read and replaced.
+use rules::Card;
+use rules::Chain;
+use rules::Code;
+use rules::Environment;
+use rules::Held;
+use rules::Job;
+use rules::Selection;
+use rules::Session;
+ghost use mathlib.Core.Path.{_≡_};
+ghost use Prim.Native.Nat.{_<_};
+ghost use mathlib.Core.List.{[]};
+ghost use lib.ListN.{take};
+ghost use Rattle.rules.specs.Codes.{codeOf, withCode, closed};
+ghost use Rattle.rules.specs.Session.{holding, joining, noJob, withSelection, withEnvironment, withHeld, withChain, withJob, dropHeld, dropChain, newSession, withSession};
+ghost use Rattle.rules.specs.Judgement.{dropPending};
+
+// The code of a number.
+pub fn code_of(card: Card, number: usize) -> Code
+    requires { ⌜ number < 3 ⌝ }
+    ensures { λ r. ⌜ r ≡ codeOf card number ⌝ }
+{
+    card.codes[number]
+}
+
+// The card with the code of a number replaced.
+pub fn with_code(card: Card, number: usize, code: Code) -> Card
+    requires { ⌜ number < 3 ⌝ }
+    ensures { λ r. ⌜ r ≡ withCode card number code ⌝ }
+{
+    let mut codes = card.codes;
+    codes[number] = code;
+    let mut next = card;
+    next.codes = codes;
+    next
+}
+
+// The card with the verified mark of a code off.
+pub fn closed(card: Card, number: usize) -> Card
+    requires { ⌜ number < 3 ⌝ }
+    ensures { λ r. ⌜ r ≡ closed card number ⌝ }
+{
+    let mut code = code_of(card, number);
+    code.verified = false;
+    with_code(card, number, code)
+}
+
+// A held answer, and a chain, of some bytes, or of as many as fit.
+pub fn holding(d: &[u8]) -> Held
+    ensures { λ r. ⌜ r ≡ holding (take 256 (now (d .entry))) ⌝ }
+{
+    let kept = octets::part(d, 0, 256);
+    Held {
+        bytes: octets::filled_256(kept),
+        len: kept.len(),
+    }
+}
+
+pub fn joining(d: &[u8]) -> Chain
+    ensures { λ r. ⌜ r ≡ joining (take 257 (now (d .entry))) ⌝ }
+{
+    let kept = octets::part(d, 0, 257);
+    Chain {
+        bytes: octets::filled_257(kept),
+        len: kept.len(),
+    }
+}
+
+// A session with one part replaced.
+pub fn with_selection(s: Session, directory: u16, file: u16) -> Session
+    ensures { λ r. ⌜ r ≡ withSelection s directory file ⌝ }
+{
+    let selection = Selection {
+        directory: directory,
+        file: file,
+    };
+    let mut next = s;
+    next.selection = selection;
+    next
+}
+
+pub fn with_environment(s: Session, number: u8, choices: [u16; 3]) -> Session
+    ensures { λ r. ⌜ r ≡ withEnvironment s number choices ⌝ }
+{
+    let environment = Environment {
+        number: number,
+        choices: choices,
+    };
+    let mut next = s;
+    next.environment = environment;
+    next
+}
+
+pub fn with_held(s: Session, d: &[u8]) -> Session
+    ensures { λ r. ⌜ r ≡ withHeld s (take 256 (now (d .entry))) ⌝ }
+{
+    let held = holding(d);
+    let mut next = s;
+    next.held = held;
+    next
+}
+
+pub fn with_chain(s: Session, d: &[u8]) -> Session
+    ensures { λ r. ⌜ r ≡ withChain s (take 257 (now (d .entry))) ⌝ }
+{
+    let chain = joining(d);
+    let mut next = s;
+    next.chain = chain;
+    next
+}
+
+pub fn with_job(s: Session, job: Job) -> Session
+    ensures { λ r. ⌜ r ≡ withJob s job ⌝ }
+{
+    let mut next = s;
+    next.job = job;
+    next
+}
+
+// The held answer dropped; the chain dropped.
+pub fn drop_held(s: Session) -> Session
+    ensures { λ r. ⌜ r ≡ dropHeld s ⌝ }
+{
+    with_held(s, b"")
+}
+
+pub fn drop_chain(s: Session) -> Session
+    ensures { λ r. ⌜ r ≡ dropChain s ⌝ }
+{
+    with_chain(s, b"")
+}
+
+// What load and power reset give.
+pub fn new_session() -> Session
+    ensures { λ r. ⌜ r ≡ newSession ⌝ }
+{
+    let selection = Selection {
+        directory: 0x3F00,
+        file: 0,
+    };
+    let environment = Environment {
+        number: 1,
+        choices: [0u16; 3],
+    };
+    let job = Job {
+        kind: 0,
+        key: 0,
+        le: 0,
+    };
+    let held = holding(b"");
+    let chain = joining(b"");
+    Session {
+        selection: selection,
+        environment: environment,
+        held: held,
+        chain: chain,
+        job: job,
+    }
+}
+
+// The card with another session.
+pub fn with_session(card: Card, s: Session) -> Card
+    ensures { λ r. ⌜ r ≡ withSession card s ⌝ }
+{
+    let mut next = card;
+    next.session = s;
+    next
+}
+
+// The card with neither a held answer nor a chain.
+pub fn drop_pending(card: Card) -> Card
+    ensures { λ r. ⌜ r ≡ dropPending card ⌝ }
+{
+    let s = card.session;
+    with_session(card, drop_held(drop_chain(s)))
+}
