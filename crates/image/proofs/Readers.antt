@@ -125,7 +125,7 @@ abbrev pub skipping : (ℕ → Bool) → Fault → ℕ → Reader Unit
 skipping test f n b = continued (bytesIf test f n b) (λ _. pure tt)
 
 -- They are the first n bytes.
-pub taken : (test : ℕ → Bool) (f : Fault) (n : ℕ) (b : Bytes) → continued (bytesIf test f n b) (λ _. pure (take n b)) ≡ bytesIf test f n b
+taken : (test : ℕ → Bool) (f : Fault) (n : ℕ) (b : Bytes) → continued (bytesIf test f n b) (λ _. pure (take n b)) ≡ bytesIf test f n b
 unfolding bytesIf byteIf
 taken test f zero b = refl
 taken test f (suc n) [] = refl
