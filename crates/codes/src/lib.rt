@@ -70,7 +70,7 @@ pub fn present(code: Code, value: &[u8]) -> Presented
     }
 }
 
-// Whether an array has the size stated and zeros after the first `len` places.
+// Whether an array has the size stated, `len` is at most that size, and zeros stand after the first `len` places.
 pub fn good_room(size: usize, bytes: &[u8], len: usize) -> bool
     ensures { λ r. ⌜ r ≡ goodRoom size (now (bytes .entry)) len ⌝ }
 {

@@ -1,6 +1,5 @@
-// The keys: their classes, which are present, which is active, and which one a job takes.
+// The keys: their classes, which are present, and which is active.
 ghost use mathlib.Core.Path.{_≡_};
-ghost use mathlib.Core.Bool.{_&&_};
 ghost use Rattle.rules.specs.Keys.{signatureKey, authenticationKey, ofClass, present, usable, activeKey};
 
 pub fn is_signature_key(key: u16) -> bool

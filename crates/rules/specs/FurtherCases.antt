@@ -46,8 +46,8 @@ abbrev pub blockedSeen : List Seen
 blockedSeen = sw 0x63C2 ∷ sw 0x63C1 ∷ sw 0x63C0 ∷ []
 
 -- A block that stripping takes, with the message 41h 42h; the same with a broken start.
-abbrev pub enciphered : ℕ → Bytes
-enciphered start = 0x00 ∷ start ∷ (replicate 251 0x55 ++ 0x00 ∷ 0x41 ∷ 0x42 ∷ [])
+abbrev pub cipherBlock : ℕ → Bytes
+cipherBlock start = 0x00 ∷ start ∷ (replicate 251 0x55 ++ 0x00 ∷ 0x41 ∷ 0x42 ∷ [])
 
 unfoldable pub furtherCases : List Case
 furtherCases =
@@ -197,10 +197,10 @@ furtherCases =
           ∷ verifyOf PIN1 pin1
           ∷ decipherPart 0x10 255
           ∷ withBody 0x00 0x2A 0x80 0x86 (0x01 ∷ 0x02 ∷ [])
-          ∷ deliverTo (enciphered 0x01)
+          ∷ deliverTo (cipherBlock 0x01)
           ∷ decipherPart 0x10 255
           ∷ decipherPart 0x00 2
-          ∷ deliverTo (enciphered 0x02)
+          ∷ deliverTo (cipherBlock 0x02)
           ∷ withLe 0xC0 0x00 0x00 0x00
           ∷ []
           );

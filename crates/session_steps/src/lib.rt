@@ -57,7 +57,8 @@ pub fn give(s: Session, le: usize, d: &[u8]) -> SessionOutput
     if n <= le {
         return session_data(s, shown, 0x9000);
     }
-    session_status(state::with_held(s, shown), more_bytes(n))
+    let held = state::with_held(s, shown);
+    session_status(held, more_bytes(n))
 }
 
 // A job is handed out, and waits with its Le.

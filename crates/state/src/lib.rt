@@ -9,10 +9,9 @@ use rules::Selection;
 use rules::Session;
 ghost use mathlib.Core.Path.{_≡_};
 ghost use Prim.Native.Nat.{_<_};
-ghost use mathlib.Core.List.{[]};
 ghost use lib.ListN.{take};
 ghost use Rattle.rules.specs.Codes.{codeOf, withCode, closed};
-ghost use Rattle.rules.specs.Session.{holding, joining, noJob, withSelection, withEnvironment, withHeld, withChain, withJob, dropHeld, dropChain, newSession, withSession};
+ghost use Rattle.rules.specs.Session.{holding, joining, withSelection, withEnvironment, withHeld, withChain, withJob, dropHeld, dropChain, newSession, withSession};
 ghost use Rattle.rules.specs.Judgement.{dropPending};
 
 // The code of a number.
@@ -172,5 +171,7 @@ pub fn drop_pending(card: Card) -> Card
     ensures { λ r. ⌜ r ≡ dropPending card ⌝ }
 {
     let s = card.session;
-    with_session(card, drop_held(drop_chain(s)))
+    let chainless = drop_chain(s);
+    let bare = drop_held(chainless);
+    with_session(card, bare)
 }

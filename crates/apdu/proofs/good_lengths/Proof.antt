@@ -7,19 +7,15 @@ use Rattle.apdu.proofs.good_lengths.Reads as reads
 use Rattle.apdu.proofs.good_lengths.Lts as lts
 use Rattle.apdu.proofs.pick.Reads as pick-reads
 
--- src/lib.rt:95:9
 pick-requires : tie.Need-pick-requires
 pick-requires c κs = search needs
 
--- src/lib.rt:96:9
 pick-requires-2 : tie.Need-pick-requires-2
 pick-requires-2 c κs = search needs
 
--- src/lib.rt:97:9
 pick-requires-3 : tie.Need-pick-requires-3
 pick-requires-3 c κs = search needs
 
--- src/lib.rt:87:1
 returns : tie.Need-returns
 unfolding goodLengths
 returns c = cc

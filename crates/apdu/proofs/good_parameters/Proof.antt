@@ -5,7 +5,6 @@ use Rattle.apdu.proofs.good_parameters.Tie as tie
 use Rattle.apdu.proofs.good_parameters.Reads as reads
 use Rattle.apdu.proofs.good_parameters.Lts as lts
 
--- src/lib.rt:58:1
 returns : tie.Need-returns
 unfolding goodParameters
 returns c = refl

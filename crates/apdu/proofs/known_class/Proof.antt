@@ -4,7 +4,6 @@ use Rattle.apdu.proofs.known_class.Tie as tie
 use Rattle.apdu.proofs.known_class.Reads as reads
 use Rattle.apdu.proofs.known_class.Lts as lts
 
--- src/lib.rt:59:1
 returns : tie.Need-returns
 returns c = simp or-false
 

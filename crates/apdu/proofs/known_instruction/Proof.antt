@@ -4,7 +4,6 @@ use Rattle.apdu.proofs.known_instruction.Tie as tie
 use Rattle.apdu.proofs.known_instruction.Reads as reads
 use Rattle.apdu.proofs.known_instruction.Lts as lts
 
--- src/lib.rt:67:1
 returns : tie.Need-returns
 returns c = simp (or-false, or-assoc)
 

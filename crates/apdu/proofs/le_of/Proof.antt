@@ -6,15 +6,12 @@ use Rattle.apdu.proofs.le_of.Reads as reads
 use Rattle.apdu.proofs.le_of.Lts as lts
 use Rattle.octets.proofs.wide.Reads as wide-reads
 
--- src/lib.rt:14:9
 returns : tie.Need-returns
 returns c = simp (eq-eqb _ _ (c .if1 .taken))
 
--- src/lib.rt:16:5
 wide-requires : tie.Need-wide-requires
 wide-requires c κs = search needs
 
--- src/lib.rt:10:1
 returns-2 : tie.Need-returns-2
 returns-2 c = simp (ne-eqb _ _ (c .before .if1 .left)) (c .wide .ensures)
 

@@ -27,87 +27,66 @@ use Rattle.card.proofs.refused.Reads as refused-reads
 use Rattle.good_state.proofs.good.Reads as good-reads
 use Rattle.octets.proofs.part.Reads as part-reads
 
--- src/lib.rt:201:9
 good-requires : tie.Need-good-requires
 good-requires c κs = search needs
 
--- src/lib.rt:202:9
 refused-requires : tie.Need-refused-requires
 refused-requires c κs = search needs
 
--- src/lib.rt:202:9
 returns : tie.Need-returns
 returns c = ap (λ (r : Outcome). (r, now (c .before .before .before .before .before .before .before .args .buffer))) (c .refused .ensures) ∙ command-bad (c .before .before .before .before .before .before .before .args .card) (now (c .before .before .before .before .before .before .before .args .apdu)) (now (c .before .before .before .before .before .before .before .args .authentication)) (now (c .before .before .before .before .before .before .before .args .signature)) (now (c .before .before .before .before .before .before .before .args .buffer)) (ap not (sym (c .before .before .good2 .ensures)) ∙ c .before .if1 .taken)
 
--- src/lib.rt:205:9
 refused-requires-2 : tie.Need-refused-requires-2
 refused-requires-2 c κs = search needs
 
--- src/lib.rt:205:9
 returns-2 : tie.Need-returns-2
 returns-2 c = ap (λ (r : Outcome). (r, now (c .before .before .before .before .before .before .before .before .args .buffer))) (c .refused2 .ensures) ∙ command-short (c .before .before .before .before .before .before .before .before .args .card) (now (c .before .before .before .before .before .before .before .before .args .apdu)) (now (c .before .before .before .before .before .before .before .before .args .authentication)) (now (c .before .before .before .before .before .before .before .before .args .signature)) (now (c .before .before .before .before .before .before .before .before .args .buffer)) (ap not (sym (c .before .before .before .good2 .ensures)) ∙ c .before .before .if1 .left) (c .before .if2 .taken)
 
--- src/lib.rt:207:8
 bad-certificate-requires : tie.Need-bad-certificate-requires
 bad-certificate-requires c κs = search needs
 
--- src/lib.rt:207:42
 bad-certificate-requires-2 : tie.Need-bad-certificate-requires-2
 bad-certificate-requires-2 c κs = search needs
 
--- src/lib.rt:208:9
 refused-requires-3 : tie.Need-refused-requires-3
 refused-requires-3 c κs = search needs
 
--- src/lib.rt:208:9
 returns-3 : tie.Need-returns-3
 returns-3 c = ap (λ (r : Outcome). (r, now (c .before .before .before .before .before .before .before .before .before .before .before .args .buffer))) (c .refused3 .ensures) ∙ command-certificate (c .before .before .before .before .before .before .before .before .before .before .before .args .card) (now (c .before .before .before .before .before .before .before .before .before .before .before .args .apdu)) (now (c .before .before .before .before .before .before .before .before .before .before .before .args .authentication)) (now (c .before .before .before .before .before .before .before .before .before .before .before .args .signature)) (now (c .before .before .before .before .before .before .before .before .before .before .before .args .buffer)) (ap not (sym (c .before .before .before .before .before .before .good2 .ensures)) ∙ c .before .before .before .before .before .if1 .left) (c .before .before .before .before .if2 .left) (ap₂ _||_ (sym (c .before .before .before .bad-certificate .ensures)) (sym (c .before .before .bad-certificate2 .ensures)) ∙ c .before .if3 .taken)
 
--- src/lib.rt:210:8
 job-waits-requires : tie.Need-job-waits-requires
 job-waits-requires c κs = search needs
 
--- src/lib.rt:211:9
 refused-requires-4 : tie.Need-refused-requires-4
 refused-requires-4 c κs = search needs
 
--- src/lib.rt:211:9
 returns-4 : tie.Need-returns-4
 returns-4 c = ap (λ (r : Outcome). (r, now (c .before .before .before .before .before .before .before .before .before .before .before .before .before .args .buffer))) (c .refused4 .ensures) ∙ command-waiting (c .before .before .before .before .before .before .before .before .before .before .before .before .before .args .card) (now (c .before .before .before .before .before .before .before .before .before .before .before .before .before .args .apdu)) (now (c .before .before .before .before .before .before .before .before .before .before .before .before .before .args .authentication)) (now (c .before .before .before .before .before .before .before .before .before .before .before .before .before .args .signature)) (now (c .before .before .before .before .before .before .before .before .before .before .before .before .before .args .buffer)) (ap not (sym (c .before .before .before .before .before .before .before .before .good2 .ensures)) ∙ c .before .before .before .before .before .before .before .if1 .left) (c .before .before .before .before .before .before .if2 .left) (ap₂ _||_ (sym (c .before .before .before .before .before .bad-certificate .ensures)) (sym (c .before .before .before .before .bad-certificate2 .ensures)) ∙ c .before .before .before .if3 .left) (sym (c .before .before .job-waits .ensures) ∙ c .before .if4 .taken)
 
--- src/lib.rt:213:27
 parse-requires : tie.Need-parse-requires
 parse-requires c κs = search needs
 
--- src/lib.rt:213:22
 enum-known-h : tie.Need-enum-known-h
 enum-known-h c = search needs
 
--- src/lib.rt:214:13
 enum-told : tie.Need-enum-told
 enum-told c = search needs
 
--- src/lib.rt:214:13
 refuse-requires : tie.Need-refuse-requires
 refuse-requires c κs = search needs
 
--- src/lib.rt:217:9
 write-requires : tie.Need-write-requires
 write-requires c κs = search needs
 
--- src/lib.rt:217:9
 same-length : tie.Need-same-length
 same-length c = search needs
 
--- src/lib.rt:217:9
 returns-5 : tie.Need-returns-5
 returns-5 c = c .before .before .write .ensures ∙ room-written (now (c .before .before .before .before .before .before .before .before .before .before .before .before .before .before .before .before .before .before .before .before .before .before .args .buffer)) _ _ (c .before .before .before .before .before .before .before .before .before .before .before .before .before .before .before .if2 .left) ∙ ap (writtenStep (now (c .before .before .before .before .before .before .before .before .before .before .before .before .before .before .before .before .before .before .before .before .before .before .args .buffer))) (c .before .before .before .before .before .before .refuse .ensures) ∙ command-malformed (c .before .before .before .before .before .before .before .before .before .before .before .before .before .before .before .before .before .before .before .before .before .before .args .card) (now (c .before .before .before .before .before .before .before .before .before .before .before .before .before .before .before .before .before .before .before .before .before .before .args .apdu)) (now (c .before .before .before .before .before .before .before .before .before .before .before .before .before .before .before .before .before .before .before .before .before .before .args .authentication)) (now (c .before .before .before .before .before .before .before .before .before .before .before .before .before .before .before .before .before .before .before .before .before .before .args .signature)) (now (c .before .before .before .before .before .before .before .before .before .before .before .before .before .before .before .before .before .before .before .before .before .before .args .buffer)) (ap not (sym (c .before .before .before .before .before .before .before .before .before .before .before .before .before .before .before .before .before .good2 .ensures)) ∙ c .before .before .before .before .before .before .before .before .before .before .before .before .before .before .before .before .if1 .left) (c .before .before .before .before .before .before .before .before .before .before .before .before .before .before .before .if2 .left) (ap₂ _||_ (sym (c .before .before .before .before .before .before .before .before .before .before .before .before .before .before .bad-certificate .ensures)) (sym (c .before .before .before .before .before .before .before .before .before .before .before .before .before .bad-certificate2 .ensures)) ∙ c .before .before .before .before .before .before .before .before .before .before .before .before .if3 .left) (sym (c .before .before .before .before .before .before .before .before .before .before .before .job-waits .ensures) ∙ c .before .before .before .before .before .before .before .before .before .before .if4 .left) (sym (c .before .before .before .before .before .before .before .before .before .parse .ensures) ∙ c .before .before .before .before .before .before .before .enum-told .given .1)
 
--- src/lib.rt:220:9
 part-requires : tie.Need-part-requires
 part-requires c κs = search needs
 
--- src/lib.rt:221:9
 judge-header-requires : tie.Need-judge-header-requires
 judge-header-requires c κs =
     let h : Header = c .before .before .h .given .0 .0 in
@@ -117,15 +96,12 @@ judge-header-requires c κs =
       fits = omega (arith, ap length (c .part .ensures), length-take (h .lc) (drop 5 (now (c .before .before .before .before .before .before .before .before .before .before .before .before .before .before .before .before .before .args .apdu))));
     }
 
--- src/lib.rt:224:5
 write-requires-2 : tie.Need-write-requires-2
 write-requires-2 c κs = search needs
 
--- src/lib.rt:192:1
 same-length-2 : tie.Need-same-length-2
 same-length-2 c = search needs
 
--- src/lib.rt:192:1
 returns-6 : tie.Need-returns-6
 unfolding dataOf
 returns-6 c =

@@ -18,55 +18,42 @@ use Rattle.good_state.proofs.good.Reads as good-reads
 use Rattle.key_commands.proofs.deliver.Reads as deliver-reads
 use Rattle.state.proofs.with_session.Reads as with-session-reads
 
--- src/lib.rt:231:9
 good-requires : tie.Need-good-requires
 good-requires c κs = search needs
 
--- src/lib.rt:232:9
 refused-requires : tie.Need-refused-requires
 refused-requires c κs = search needs
 
--- src/lib.rt:232:9
 returns : tie.Need-returns
 returns c = ap (λ (r : Outcome). (r, now (c .before .before .before .before .before .args .buffer))) (c .refused .ensures) ∙ delivery-bad (c .before .before .before .before .before .args .card) (now (c .before .before .before .before .before .args .result)) (now (c .before .before .before .before .before .args .buffer)) (ap not (sym (c .before .before .good2 .ensures)) ∙ c .before .if1 .taken)
 
--- src/lib.rt:235:9
 refused-requires-2 : tie.Need-refused-requires-2
 refused-requires-2 c κs = search needs
 
--- src/lib.rt:235:9
 returns-2 : tie.Need-returns-2
 returns-2 c = ap (λ (r : Outcome). (r, now (c .before .before .before .before .before .before .args .buffer))) (c .refused2 .ensures) ∙ delivery-short (c .before .before .before .before .before .before .args .card) (now (c .before .before .before .before .before .before .args .result)) (now (c .before .before .before .before .before .before .args .buffer)) (ap not (sym (c .before .before .before .good2 .ensures)) ∙ c .before .before .if1 .left) (c .before .if2 .taken)
 
--- src/lib.rt:237:9
 job-waits-requires : tie.Need-job-waits-requires
 job-waits-requires c κs = search needs
 
--- src/lib.rt:238:9
 refused-requires-3 : tie.Need-refused-requires-3
 refused-requires-3 c κs = search needs
 
--- src/lib.rt:238:9
 returns-3 : tie.Need-returns-3
 returns-3 c = ap (λ (r : Outcome). (r, now (c .before .before .before .before .before .before .before .before .args .buffer))) (c .refused3 .ensures) ∙ delivery-unasked (c .before .before .before .before .before .before .before .before .args .card) (now (c .before .before .before .before .before .before .before .before .args .result)) (now (c .before .before .before .before .before .before .before .before .args .buffer)) (ap not (sym (c .before .before .before .before .before .good2 .ensures)) ∙ c .before .before .before .before .if1 .left) (c .before .before .before .if2 .left) (ap not (sym (c .before .before .job-waits .ensures)) ∙ c .before .if3 .taken)
 
--- src/lib.rt:241:9
 deliver-requires : tie.Need-deliver-requires
 deliver-requires c κs = search needs
 
--- src/lib.rt:244:20
 with-session-requires : tie.Need-with-session-requires
 with-session-requires c κs = search needs
 
--- src/lib.rt:244:5
 write-requires : tie.Need-write-requires
 write-requires c κs = search needs
 
--- src/lib.rt:228:1
 same-length : tie.Need-same-length
 same-length c = search needs
 
--- src/lib.rt:228:1
 returns-4 : tie.Need-returns-4
 returns-4 c =
     c .before .before .write .ensures ∙ room-written (now (c .before .before .before .before .before .before .before .before .before .before .before .before .before .before .before .before .args .buffer)) _ _ (c .before .before .before .before .before .before .before .before .before .before .before .if2 .left)

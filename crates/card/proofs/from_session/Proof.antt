@@ -5,11 +5,9 @@ use Rattle.card.proofs.from_session.Reads as reads
 use Rattle.card.proofs.from_session.Lts as lts
 use Rattle.state.proofs.with_session.Reads as with-session-reads
 
--- src/lib.rt:43:15
 with-session-requires : tie.Need-with-session-requires
 with-session-requires c κs = search needs
 
--- src/lib.rt:37:1
 returns : tie.Need-returns
 returns c = simp (c .with-session .ensures)
 

@@ -16,71 +16,54 @@ use Rattle.apdu.proofs.known_instruction.Reads as known-instruction-reads
 use Rattle.card.proofs.own_rules.Reads as own-rules-reads
 use Rattle.card.proofs.refuse.Reads as refuse-reads
 
--- src/lib.rt:145:9
 known-class-requires : tie.Need-known-class-requires
 known-class-requires c κs = search needs
 
--- src/lib.rt:147:9
 refuse-requires : tie.Need-refuse-requires
 refuse-requires c κs = search needs
 
--- src/lib.rt:147:9
 returns : tie.Need-returns
 returns c = c .refuse .ensures ∙ class-unknown (c .before .before .before .before .before .before .args .card) (c .before .before .before .before .before .before .args .h) (now (c .before .before .before .before .before .before .args .d)) (now (c .before .before .before .before .before .before .args .authentication)) (now (c .before .before .before .before .before .before .args .signature)) (ap not (sym (c .before .before .known-class .ensures)) ∙ c .before .if1 .taken)
 
--- src/lib.rt:149:9
 known-instruction-requires : tie.Need-known-instruction-requires
 known-instruction-requires c κs = search needs
 
--- src/lib.rt:150:9
 refuse-requires-2 : tie.Need-refuse-requires-2
 refuse-requires-2 c κs = search needs
 
--- src/lib.rt:150:9
 returns-2 : tie.Need-returns-2
 returns-2 c = c .refuse2 .ensures ∙ instruction-unknown (c .before .before .before .before .before .before .before .before .args .card) (c .before .before .before .before .before .before .before .before .args .h) (now (c .before .before .before .before .before .before .before .before .args .d)) (now (c .before .before .before .before .before .before .before .before .args .authentication)) (now (c .before .before .before .before .before .before .before .before .args .signature)) (ap not (sym (c .before .before .before .before .known-class .ensures)) ∙ c .before .before .before .if1 .left) (ap not (sym (c .before .before .known-instruction .ensures)) ∙ c .before .if2 .taken)
 
--- src/lib.rt:152:8
 bad-chaining-requires : tie.Need-bad-chaining-requires
 bad-chaining-requires c κs = search needs
 
--- src/lib.rt:153:9
 refuse-requires-3 : tie.Need-refuse-requires-3
 refuse-requires-3 c κs = search needs
 
--- src/lib.rt:153:9
 returns-3 : tie.Need-returns-3
 returns-3 c = c .refuse3 .ensures ∙ chaining-refused (c .before .before .before .before .before .before .before .before .before .before .args .card) (c .before .before .before .before .before .before .before .before .before .before .args .h) (now (c .before .before .before .before .before .before .before .before .before .before .args .d)) (now (c .before .before .before .before .before .before .before .before .before .before .args .authentication)) (now (c .before .before .before .before .before .before .before .before .before .before .args .signature)) (ap not (sym (c .before .before .before .before .before .before .known-class .ensures)) ∙ c .before .before .before .before .before .if1 .left) (ap not (sym (c .before .before .before .before .known-instruction .ensures)) ∙ c .before .before .before .if2 .left) (sym (c .before .before .bad-chaining .ensures) ∙ c .before .if3 .taken)
 
--- src/lib.rt:155:9
 good-parameters-requires : tie.Need-good-parameters-requires
 good-parameters-requires c κs = search needs
 
--- src/lib.rt:156:9
 refuse-requires-4 : tie.Need-refuse-requires-4
 refuse-requires-4 c κs = search needs
 
--- src/lib.rt:156:9
 returns-4 : tie.Need-returns-4
 returns-4 c = c .refuse4 .ensures ∙ parameters-refused (c .before .before .before .before .before .before .before .before .before .before .before .before .args .card) (c .before .before .before .before .before .before .before .before .before .before .before .before .args .h) (now (c .before .before .before .before .before .before .before .before .before .before .before .before .args .d)) (now (c .before .before .before .before .before .before .before .before .before .before .before .before .args .authentication)) (now (c .before .before .before .before .before .before .before .before .before .before .before .before .args .signature)) (ap not (sym (c .before .before .before .before .before .before .before .before .known-class .ensures)) ∙ c .before .before .before .before .before .before .before .if1 .left) (ap not (sym (c .before .before .before .before .before .before .known-instruction .ensures)) ∙ c .before .before .before .before .before .if2 .left) (sym (c .before .before .before .before .bad-chaining .ensures) ∙ c .before .before .before .if3 .left) (ap not (sym (c .before .before .good-parameters .ensures)) ∙ c .before .if4 .taken)
 
--- src/lib.rt:158:9
 good-lengths-requires : tie.Need-good-lengths-requires
 good-lengths-requires c κs = search needs
 
--- src/lib.rt:159:9
 refuse-requires-5 : tie.Need-refuse-requires-5
 refuse-requires-5 c κs = search needs
 
--- src/lib.rt:159:9
 returns-5 : tie.Need-returns-5
 returns-5 c = c .refuse5 .ensures ∙ lengths-refused (c .before .before .before .before .before .before .before .before .before .before .before .before .before .before .args .card) (c .before .before .before .before .before .before .before .before .before .before .before .before .before .before .args .h) (now (c .before .before .before .before .before .before .before .before .before .before .before .before .before .before .args .d)) (now (c .before .before .before .before .before .before .before .before .before .before .before .before .before .before .args .authentication)) (now (c .before .before .before .before .before .before .before .before .before .before .before .before .before .before .args .signature)) (ap not (sym (c .before .before .before .before .before .before .before .before .before .before .known-class .ensures)) ∙ c .before .before .before .before .before .before .before .before .before .if1 .left) (ap not (sym (c .before .before .before .before .before .before .before .before .known-instruction .ensures)) ∙ c .before .before .before .before .before .before .before .if2 .left) (sym (c .before .before .before .before .before .before .bad-chaining .ensures) ∙ c .before .before .before .before .before .if3 .left) (ap not (sym (c .before .before .before .before .good-parameters .ensures)) ∙ c .before .before .before .if4 .left) (ap not (sym (c .before .before .good-lengths .ensures)) ∙ c .before .if5 .taken)
 
--- src/lib.rt:161:5
 own-rules-requires : tie.Need-own-rules-requires
 own-rules-requires c κs = record { judged = c .before .before .before .before .before .before .before .before .before .before .before .before .before .pre; parameters = not-false _ (ap not (sym (c .before .before .before .good-parameters .ensures)) ∙ c .before .before .if4 .left); lengths = not-false _ (ap not (sym (c .before .good-lengths .ensures)) ∙ c .if5 .left) }
 
--- src/lib.rt:135:1
 returns-6 : tie.Need-returns-6
 returns-6 c = c .own-rules .ensures ∙ admitted (c .before .before .before .before .before .before .before .before .before .before .before .before .before .before .args .card) (c .before .before .before .before .before .before .before .before .before .before .before .before .before .before .args .h) (now (c .before .before .before .before .before .before .before .before .before .before .before .before .before .before .args .d)) (now (c .before .before .before .before .before .before .before .before .before .before .before .before .before .before .args .authentication)) (now (c .before .before .before .before .before .before .before .before .before .before .before .before .before .before .args .signature)) (ap not (sym (c .before .before .before .before .before .before .before .before .before .before .known-class .ensures)) ∙ c .before .before .before .before .before .before .before .before .before .if1 .left) (ap not (sym (c .before .before .before .before .before .before .before .before .known-instruction .ensures)) ∙ c .before .before .before .before .before .before .before .if2 .left) (sym (c .before .before .before .before .before .before .bad-chaining .ensures) ∙ c .before .before .before .before .before .if3 .left) (ap not (sym (c .before .before .before .before .good-parameters .ensures)) ∙ c .before .before .before .if4 .left) (ap not (sym (c .before .before .good-lengths .ensures)) ∙ c .before .if5 .left)
 

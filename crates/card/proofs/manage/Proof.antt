@@ -7,19 +7,15 @@ use Rattle.card.proofs.manage.Lts as lts
 use Rattle.key_commands.proofs.choose_key.Reads as choose-key-reads
 use Rattle.key_commands.proofs.set_environment.Reads as set-environment-reads
 
--- src/lib.rt:64:9
 set-environment-requires : tie.Need-set-environment-requires
 set-environment-requires c κs = search needs
 
--- src/lib.rt:64:9
 returns : tie.Need-returns
 returns c = simp (eq-eqb _ _ (c .before .if1 .taken)) (c .set-environment .ensures)
 
--- src/lib.rt:66:5
 choose-key-requires : tie.Need-choose-key-requires
 choose-key-requires c κs = search needs
 
--- src/lib.rt:60:1
 returns-2 : tie.Need-returns-2
 returns-2 c = simp (ne-eqb _ _ (c .before .if1 .left)) (c .choose-key .ensures)
 

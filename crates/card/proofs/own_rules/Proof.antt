@@ -17,59 +17,45 @@ use Rattle.code_commands.proofs.reset_retry.Reads as reset-retry-reads
 use Rattle.code_commands.proofs.verify.Reads as verify-reads
 use Rattle.state.proofs.drop_pending.Reads as drop-pending-reads
 
--- src/lib.rt:127:51
 drop-pending-requires : tie.Need-drop-pending-requires
 drop-pending-requires c κs = search needs
 
--- src/lib.rt:127:29
 verify-requires : tie.Need-verify-requires
 verify-requires c κs = omega (arith, verify-code (c .before .before .before .before .before .args .h) (c .before .before .before .before .before .pre .parameters) (c .before .match .keys1))
 
--- src/lib.rt:127:17
 from-status-requires : tie.Need-from-status-requires
 from-status-requires c κs = search needs
 
--- src/lib.rt:128:51
 drop-pending-requires-2 : tie.Need-drop-pending-requires-2
 drop-pending-requires-2 c κs = search needs
 
--- src/lib.rt:128:29
 change-requires : tie.Need-change-requires
 change-requires c κs = omega (arith, change-code (c .before .before .before .before .before .args .h) (c .before .before .before .before .before .pre .parameters) (c .before .match .keys2))
 
--- src/lib.rt:128:17
 from-status-requires-2 : tie.Need-from-status-requires-2
 from-status-requires-2 c κs = search needs
 
--- src/lib.rt:129:56
 drop-pending-requires-3 : tie.Need-drop-pending-requires-3
 drop-pending-requires-3 c κs = search needs
 
--- src/lib.rt:129:29
 reset-retry-requires : tie.Need-reset-retry-requires
 reset-retry-requires c κs = omega (arith, reset-code (c .before .before .before .before .before .args .h) (c .before .before .before .before .before .pre .parameters) (c .before .match .keys3))
 
--- src/lib.rt:129:17
 from-status-requires-3 : tie.Need-from-status-requires-3
 from-status-requires-3 c κs = search needs
 
--- src/lib.rt:130:14
 sign-or-session-requires : tie.Need-sign-or-session-requires
 sign-or-session-requires c κs = search needs
 
--- src/lib.rt:115:1
 returns : tie.Need-returns
 returns c = c .from-status .ensures ∙ c .before .verify .ensures ∙ ap (λ (x : Card). verify x (c .before .before .before .before .before .before .before .args .h) (now (c .before .before .before .before .before .before .before .args .d))) (c .before .before .drop-pending .ensures) ∙ to-verify (c .before .before .before .before .before .before .before .args .card) (c .before .before .before .before .before .before .before .args .h) (now (c .before .before .before .before .before .before .before .args .d)) (now (c .before .before .before .before .before .before .before .args .authentication)) (now (c .before .before .before .before .before .before .before .args .signature)) (c .before .before .before .match .keys1)
 
--- src/lib.rt:115:1
 returns-2 : tie.Need-returns-2
 returns-2 c = c .from-status2 .ensures ∙ c .before .change .ensures ∙ ap (λ (x : Card). change x (c .before .before .before .before .before .before .before .args .h) (now (c .before .before .before .before .before .before .before .args .d))) (c .before .before .drop-pending2 .ensures) ∙ to-change (c .before .before .before .before .before .before .before .args .card) (c .before .before .before .before .before .before .before .args .h) (now (c .before .before .before .before .before .before .before .args .d)) (now (c .before .before .before .before .before .before .before .args .authentication)) (now (c .before .before .before .before .before .before .before .args .signature)) (c .before .before .before .match .keys2)
 
--- src/lib.rt:115:1
 returns-3 : tie.Need-returns-3
 returns-3 c = c .from-status3 .ensures ∙ c .before .reset-retry .ensures ∙ ap (λ (x : Card). resetRetry x (c .before .before .before .before .before .before .before .args .h) (now (c .before .before .before .before .before .before .before .args .d))) (c .before .before .drop-pending3 .ensures) ∙ to-reset-retry (c .before .before .before .before .before .before .before .args .card) (c .before .before .before .before .before .before .before .args .h) (now (c .before .before .before .before .before .before .before .args .d)) (now (c .before .before .before .before .before .before .before .args .authentication)) (now (c .before .before .before .before .before .before .before .args .signature)) (c .before .before .before .match .keys3)
 
--- src/lib.rt:115:1
 returns-4 : tie.Need-returns-4
 returns-4 c = c .sign-or-session .ensures ∙ to-others (c .before .before .before .before .before .args .card) (c .before .before .before .before .before .args .h) (now (c .before .before .before .before .before .args .d)) (now (c .before .before .before .before .before .args .authentication)) (now (c .before .before .before .before .before .args .signature)) (c .before .match .rest .0 .0 .1) (c .before .match .rest .0 .1) (c .before .match .rest .1)
 

@@ -10,40 +10,31 @@ use Rattle.state.proofs.closed.Reads as closed-reads
 use Rattle.state.proofs.new_session.Reads as new-session-reads
 use Rattle.state.proofs.with_session.Reads as with-session-reads
 
--- src/lib.rt:251:9
 good-requires : tie.Need-good-requires
 good-requires c κs = search needs
 
--- src/lib.rt:252:9
 refused-requires : tie.Need-refused-requires
 refused-requires c κs = search needs
 
--- src/lib.rt:252:9
 returns : tie.Need-returns
 unfolding powerReset
 returns c = simp (← c .before .before .good2 .ensures, c .before .if1 .taken) (c .refused .ensures)
 
--- src/lib.rt:255:23
 closed-requires : tie.Need-closed-requires
 closed-requires c κs = search needs
 
--- src/lib.rt:255:9
 closed-requires-2 : tie.Need-closed-requires-2
 closed-requires-2 c κs = search needs
 
--- src/lib.rt:254:9
 closed-requires-3 : tie.Need-closed-requires-3
 closed-requires-3 c κs = search needs
 
--- src/lib.rt:258:9
 new-session-requires : tie.Need-new-session-requires
 new-session-requires c κs = search needs
 
--- src/lib.rt:260:15
 with-session-requires : tie.Need-with-session-requires
 with-session-requires c κs = search needs
 
--- src/lib.rt:248:1
 returns-2 : tie.Need-returns-2
 unfolding powerReset
 returns-2 c = simp (← c .before .before .before .before .before .before .good2 .ensures, c .before .before .before .before .before .if1 .left, c .with-session .ensures, c .before .new-session .ensures, c .before .before .closed3 .ensures, c .before .before .before .closed2 .ensures, c .before .before .before .before .closed .ensures)

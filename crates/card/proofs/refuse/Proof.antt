@@ -6,15 +6,12 @@ use Rattle.card.proofs.refuse.Lts as lts
 use Rattle.answers.proofs.status.Reads as status-reads
 use Rattle.state.proofs.drop_pending.Reads as drop-pending-reads
 
--- src/lib.rt:52:9
 status-requires : tie.Need-status-requires
 status-requires c κs = search needs
 
--- src/lib.rt:54:15
 drop-pending-requires : tie.Need-drop-pending-requires
 drop-pending-requires c κs = search needs
 
--- src/lib.rt:49:1
 returns : tie.Need-returns
 returns c = simp (c .before .status .ensures, c .drop-pending .ensures)
 

@@ -26,75 +26,57 @@ use Rattle.key_commands.proofs.internal_authenticate.Reads as internal-authenti
 use Rattle.state.proofs.drop_chain.Reads as drop-chain-reads
 use Rattle.state.proofs.drop_held.Reads as drop-held-reads
 
--- src/lib.rt:81:36
 drop-chain-requires : tie.Need-drop-chain-requires
 drop-chain-requires c κs = search needs
 
--- src/lib.rt:81:9
 drop-held-requires : tie.Need-drop-held-requires
 drop-held-requires c κs = search needs
 
--- src/lib.rt:84:17
 select-requires : tie.Need-select-requires
 select-requires c κs = search needs
 
--- src/lib.rt:85:17
 read-record-requires : tie.Need-read-record-requires
 read-record-requires c κs = (c .before .before .before .before .before .before .before .pre .judged .isGood, record-number (c .before .before .before .before .before .before .before .args .h) (c .before .before .before .before .before .before .before .pre .parameters) (c .match .keys2))
 
--- src/lib.rt:86:17
 read-binary-requires : tie.Need-read-binary-requires
 read-binary-requires c κs = search needs
 
--- src/lib.rt:87:45
 drop-chain-requires-2 : tie.Need-drop-chain-requires-2
 drop-chain-requires-2 c κs = search needs
 
--- src/lib.rt:87:17
 get-response-requires : tie.Need-get-response-requires
 get-response-requires c κs = rw (c .drop-chain2 .ensures) (held-short (c .before .before .before .before .before .before .before .before .args .card .keys) (c .before .before .before .before .before .before .before .before .args .card .session) (good-session (c .before .before .before .before .before .before .before .before .args .card) (c .before .before .before .before .before .before .before .before .pre .judged .isGood)))
 
--- src/lib.rt:88:17
 manage-requires : tie.Need-manage-requires
 manage-requires c κs = search needs
 
--- src/lib.rt:89:17
 internal-authenticate-requires : tie.Need-internal-authenticate-requires
 internal-authenticate-requires c κs = omega (arith, c .before .before .before .before .before .before .before .pre .judged .fits, authenticate-length (c .before .before .before .before .before .before .before .args .h) (c .before .before .before .before .before .before .before .pre .lengths) (c .match .keys6))
 
--- src/lib.rt:90:43
 drop-held-requires-2 : tie.Need-drop-held-requires-2
 drop-held-requires-2 c κs = search needs
 
--- src/lib.rt:90:14
 decipher-requires : tie.Need-decipher-requires
 decipher-requires c κs = search needs
 
--- src/lib.rt:70:1
 returns : tie.Need-returns
 returns c = c .select .ensures ∙ ap (λ (s : Session). select s (c .before .before .before .before .before .before .before .before .args .h) (now (c .before .before .before .before .before .before .before .before .args .d))) (c .before .before .drop-held .ensures ∙ ap dropHeld (c .before .before .before .drop-chain .ensures)) ∙ to-select (c .before .before .before .before .before .before .before .before .args .card) (c .before .before .before .before .before .before .before .before .args .h) (now (c .before .before .before .before .before .before .before .before .args .d)) (now (c .before .before .before .before .before .before .before .before .args .authentication)) (now (c .before .before .before .before .before .before .before .before .args .signature)) (c .before .match .keys1)
 
--- src/lib.rt:70:1
 returns-2 : tie.Need-returns-2
 returns-2 c = c .read-record .ensures ∙ ap (λ (s : Session). readRecord (c .before .before .before .before .before .before .before .before .args .card) s (c .before .before .before .before .before .before .before .before .args .h)) (c .before .before .drop-held .ensures ∙ ap dropHeld (c .before .before .before .drop-chain .ensures)) ∙ to-read-record (c .before .before .before .before .before .before .before .before .args .card) (c .before .before .before .before .before .before .before .before .args .h) (now (c .before .before .before .before .before .before .before .before .args .d)) (now (c .before .before .before .before .before .before .before .before .args .authentication)) (now (c .before .before .before .before .before .before .before .before .args .signature)) (c .before .match .keys2)
 
--- src/lib.rt:70:1
 returns-3 : tie.Need-returns-3
 returns-3 c = c .read-binary .ensures ∙ ap (λ (s : Session). readBinary s (c .before .before .before .before .before .before .before .before .args .h) (now (c .before .before .before .before .before .before .before .before .args .authentication)) (now (c .before .before .before .before .before .before .before .before .args .signature))) (c .before .before .drop-held .ensures ∙ ap dropHeld (c .before .before .before .drop-chain .ensures)) ∙ to-read-binary (c .before .before .before .before .before .before .before .before .args .card) (c .before .before .before .before .before .before .before .before .args .h) (now (c .before .before .before .before .before .before .before .before .args .d)) (now (c .before .before .before .before .before .before .before .before .args .authentication)) (now (c .before .before .before .before .before .before .before .before .args .signature)) (c .before .match .keys3)
 
--- src/lib.rt:70:1
 returns-4 : tie.Need-returns-4
 returns-4 c = c .get-response .ensures ∙ ap (λ (s : Session). getResponse s (c .before .before .before .before .before .before .before .before .before .args .h)) (c .before .drop-chain2 .ensures) ∙ to-get-response (c .before .before .before .before .before .before .before .before .before .args .card) (c .before .before .before .before .before .before .before .before .before .args .h) (now (c .before .before .before .before .before .before .before .before .before .args .d)) (now (c .before .before .before .before .before .before .before .before .before .args .authentication)) (now (c .before .before .before .before .before .before .before .before .before .args .signature)) (c .before .before .match .keys4)
 
--- src/lib.rt:70:1
 returns-5 : tie.Need-returns-5
 returns-5 c = c .manage .ensures ∙ ap (λ (s : Session). cond (eqb (c .before .before .before .before .before .before .before .before .args .h .p1) 0xF3) (setEnvironment s (c .before .before .before .before .before .before .before .before .args .h)) (chooseKey (c .before .before .before .before .before .before .before .before .args .card) s (c .before .before .before .before .before .before .before .before .args .h) (now (c .before .before .before .before .before .before .before .before .args .d)))) (c .before .before .drop-held .ensures ∙ ap dropHeld (c .before .before .before .drop-chain .ensures)) ∙ to-manage (c .before .before .before .before .before .before .before .before .args .card) (c .before .before .before .before .before .before .before .before .args .h) (now (c .before .before .before .before .before .before .before .before .args .d)) (now (c .before .before .before .before .before .before .before .before .args .authentication)) (now (c .before .before .before .before .before .before .before .before .args .signature)) (c .before .match .keys5)
 
--- src/lib.rt:70:1
 returns-6 : tie.Need-returns-6
 returns-6 c = c .internal-authenticate .ensures ∙ ap (λ (s : Session). internalAuthenticate (c .before .before .before .before .before .before .before .before .args .card) s (c .before .before .before .before .before .before .before .before .args .h) (now (c .before .before .before .before .before .before .before .before .args .d))) (c .before .before .drop-held .ensures ∙ ap dropHeld (c .before .before .before .drop-chain .ensures)) ∙ to-authenticate (c .before .before .before .before .before .before .before .before .args .card) (c .before .before .before .before .before .before .before .before .args .h) (now (c .before .before .before .before .before .before .before .before .args .d)) (now (c .before .before .before .before .before .before .before .before .args .authentication)) (now (c .before .before .before .before .before .before .before .before .args .signature)) (c .before .match .keys6)
 
--- src/lib.rt:70:1
 returns-7 : tie.Need-returns-7
 returns-7 c = c .decipher .ensures ∙ ap (λ (s : Session). decipher (c .before .before .before .before .before .before .before .before .before .args .card) s (c .before .before .before .before .before .before .before .before .before .args .h) (now (c .before .before .before .before .before .before .before .before .before .args .d))) (c .before .drop-held2 .ensures) ∙ to-decipher (c .before .before .before .before .before .before .before .before .before .args .card) (c .before .before .before .before .before .before .before .before .before .args .h) (now (c .before .before .before .before .before .before .before .before .before .args .d)) (now (c .before .before .before .before .before .before .before .before .before .args .authentication)) (now (c .before .before .before .before .before .before .before .before .before .args .signature)) (c .before .before .match .rest .0 .0 .0 .0 .0 .1) (c .before .before .match .rest .0 .0 .0 .0 .1) (c .before .before .match .rest .0 .0 .0 .1) (c .before .before .match .rest .0 .0 .1) (c .before .before .match .rest .0 .1) (c .before .before .match .rest .1)
 

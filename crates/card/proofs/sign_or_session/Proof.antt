@@ -14,27 +14,21 @@ use Rattle.card.proofs.session_command.Reads as session-command-reads
 use Rattle.key_commands.proofs.sign.Reads as sign-reads
 use Rattle.state.proofs.drop_pending.Reads as drop-pending-reads
 
--- src/lib.rt:107:13
 drop-pending-requires : tie.Need-drop-pending-requires
 drop-pending-requires c κs = search needs
 
--- src/lib.rt:109:9
 sign-requires : tie.Need-sign-requires
 sign-requires c κs = search needs
 
--- src/lib.rt:109:9
 returns : tie.Need-returns
 returns c = c .sign .ensures ∙ ap (λ (x : Card). sign (c .before .before .before .before .before .before .before .before .args .card) (x .session) (c .before .before .before .before .before .before .before .before .args .h) (now (c .before .before .before .before .before .before .before .before .args .d))) (c .before .before .drop-pending .ensures) ∙ to-sign (c .before .before .before .before .before .before .before .before .args .card) (c .before .before .before .before .before .before .before .before .args .h) (now (c .before .before .before .before .before .before .before .before .args .d)) (now (c .before .before .before .before .before .before .before .before .args .authentication)) (now (c .before .before .before .before .before .before .before .before .args .signature)) (c .before .before .before .if1 .taken)
 
--- src/lib.rt:111:24
 session-command-requires : tie.Need-session-command-requires
 session-command-requires c κs = search needs
 
--- src/lib.rt:111:5
 from-session-requires : tie.Need-from-session-requires
 from-session-requires c κs = search needs
 
--- src/lib.rt:95:1
 returns-2 : tie.Need-returns-2
 returns-2 c = c .from-session .ensures ∙ ap (inSession (c .before .before .before .before .before .before .before .args .card)) (c .before .session-command .ensures) ∙ to-session (c .before .before .before .before .before .before .before .args .card) (c .before .before .before .before .before .before .before .args .h) (now (c .before .before .before .before .before .before .before .args .d)) (now (c .before .before .before .before .before .before .before .args .authentication)) (now (c .before .before .before .before .before .before .before .args .signature)) (c .before .before .if1 .left)
 

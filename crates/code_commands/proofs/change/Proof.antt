@@ -26,23 +26,18 @@ use Rattle.octets.proofs.wide.Reads as wide-reads
 use Rattle.state.proofs.code_of.Reads as code-of-reads
 use Rattle.state.proofs.with_code.Reads as with-code-reads
 
--- src/lib.rt:112:9
 wide-requires : tie.Need-wide-requires
 wide-requires c κs = search needs
 
--- src/lib.rt:113:9
 code-of-requires : tie.Need-code-of-requires
 code-of-requires c κs = search needs
 
--- src/lib.rt:114:38
 old-value-requires : tie.Need-old-value-requires
 old-value-requires c κs = search needs
 
--- src/lib.rt:114:9
 judge-requires : tie.Need-judge-requires
 judge-requires c κs = search needs
 
--- src/lib.rt:117:9
 returns : tie.Need-returns
 unfolding change
 returns c =
@@ -53,19 +48,15 @@ returns c =
     let judged : c .before .before .before .judge .result ≡ judgementOf card (c .before .before .before .before .before .before .before .before .args .h .p2) (oldValue card (c .before .before .before .before .before .before .before .before .args .h .p2) d) = c .before .before .before .judge .ensures ∙ ap (λ (k : ℕ). judgementOf card k (now (c .before .before .before .before .old-value .result))) number ∙ ap (judgementOf card (c .before .before .before .before .before .before .before .before .args .h .p2)) (c .before .before .before .before .old-value .ensures ∙ ap (λ (v : Code). take (v .len) d) code) in
     old-wrong card (c .before .before .before .before .before .before .before .before .args .h .p2) (c .before .before .before .before .before .before .before .before .args .h .p2) d _ (c .before .before .before .judge .result) judged (c .if1 .taken)
 
--- src/lib.rt:122:9
 new-value-requires : tie.Need-new-value-requires
 new-value-requires c κs = search needs
 
--- src/lib.rt:123:9
 allowed-requires : tie.Need-allowed-requires
 allowed-requires c κs = search needs
 
--- src/lib.rt:124:9
 disallowed-requires : tie.Need-disallowed-requires
 disallowed-requires c κs = search needs
 
--- src/lib.rt:124:9
 returns-2 : tie.Need-returns-2
 unfolding change
 returns-2 c =
@@ -78,15 +69,12 @@ returns-2 c =
     let same-test : c .before .before .allowed .result ≡ allowed (c .before .before .before .before .before .before .before .before .before .before .before .before .args .h .p2) (newValue card (c .before .before .before .before .before .before .before .before .before .before .before .before .args .h .p2) d) = c .before .before .allowed .ensures ∙ ap (λ (k : ℕ). allowed k (now (c .before .before .before .new-value .result))) number ∙ ap (allowed (c .before .before .before .before .before .before .before .before .before .before .before .before .args .h .p2)) new in
     c .disallowed .ensures ∙ new-refused card (c .before .before .before .before .before .before .before .before .before .before .before .before .args .h .p2) (c .before .before .before .before .before .before .before .before .before .before .before .before .args .h .p2) d _ (c .before .before .before .before .before .before .before .judge .result) judged (c .before .before .before .before .if1 .left) (ap not (sym same-test) ∙ c .before .if2 .taken)
 
--- src/lib.rt:127:46
 storing-requires : tie.Need-storing-requires
 storing-requires c κs = search needs
 
--- src/lib.rt:127:15
 with-code-requires : tie.Need-with-code-requires
 with-code-requires c κs = search needs
 
--- src/lib.rt:108:1
 returns-3 : tie.Need-returns-3
 unfolding change
 returns-3 c =

@@ -14,47 +14,36 @@ use Rattle.codes.proofs.present.Reads as present-reads
 use Rattle.state.proofs.code_of.Reads as code-of-reads
 use Rattle.state.proofs.with_code.Reads as with-code-reads
 
--- src/lib.rt:40:33
 code-of-requires : tie.Need-code-of-requires
 code-of-requires c κs = search needs
 
--- src/lib.rt:40:9
 present-requires : tie.Need-present-requires
 present-requires c κs = search needs
 
--- src/lib.rt:44:29
 enum-told : tie.Need-enum-told
 enum-told c = search needs
 
--- src/lib.rt:50:19
 enum-told-2 : tie.Need-enum-told-2
 enum-told-2 c = search needs
 
--- src/lib.rt:50:19
 with-code-requires : tie.Need-with-code-requires
 with-code-requires c κs = search needs
 
--- src/lib.rt:54:24
 enum-known-verdict : tie.Need-enum-known-verdict
 enum-known-verdict c = search needs
 
--- src/lib.rt:55:19
 with-code-requires-2 : tie.Need-with-code-requires-2
 with-code-requires-2 c κs = search needs
 
--- src/lib.rt:56:17
 wrong-status-requires : tie.Need-wrong-status-requires
 wrong-status-requires c κs = search needs
 
--- src/lib.rt:36:1
 returns : tie.Need-returns
 returns c = by-verdict (c .before .before .before .before .before .before .args .card) (c .before .before .before .before .before .before .args .number) (now (c .before .before .before .before .before .before .args .presented)) (c .before .before .before .present .result) (c .before .before .before .present .ensures ∙ ap (λ (v : Code). presentOf v (now (c .before .before .before .before .before .before .args .presented))) (c .before .before .before .before .code-of .ensures)) NoTries (c .enum-told .given .1)
 
--- src/lib.rt:36:1
 returns-2 : tie.Need-returns-2
 returns-2 c = simp (c .with-code .ensures) (by-verdict (c .before .before .before .before .before .before .before .args .card) (c .before .before .before .before .before .before .before .args .number) (now (c .before .before .before .before .before .before .before .args .presented)) (c .before .before .before .before .present .result) (c .before .before .before .before .present .ensures ∙ ap (λ (v : Code). presentOf v (now (c .before .before .before .before .before .before .before .args .presented))) (c .before .before .before .before .before .code-of .ensures)) Right (c .before .enum-told2 .given .1))
 
--- src/lib.rt:36:1
 returns-3 : tie.Need-returns-3
 returns-3 c = simp (c .before .with-code2 .ensures, c .wrong-status .ensures) (by-verdict (c .before .before .before .before .before .before .before .before .before .args .card) (c .before .before .before .before .before .before .before .before .before .args .number) (now (c .before .before .before .before .before .before .before .before .before .args .presented)) (c .before .before .before .before .before .before .present .result) (c .before .before .before .before .before .before .present .ensures ∙ ap (λ (v : Code). presentOf v (now (c .before .before .before .before .before .before .before .before .before .args .presented))) (c .before .before .before .before .before .before .before .code-of .ensures)) (Wrong (c .before .before .before .verdict .given .0 .0)) (c .before .before .before .verdict .given .1))
 

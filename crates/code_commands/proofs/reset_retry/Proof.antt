@@ -18,15 +18,12 @@ use Rattle.code_commands.proofs.unblock_by_verified_puk.Reads as unbloc
 use Rattle.octets.proofs.wide.Reads as wide-reads
 use Rattle.state.proofs.code_of.Reads as code-of-reads
 
--- src/lib.rt:175:9
 wide-requires : tie.Need-wide-requires
 wide-requires c κs = search needs
 
--- src/lib.rt:176:9
 code-of-requires : tie.Need-code-of-requires
 code-of-requires c κs = search needs
 
--- src/lib.rt:178:9
 returns : tie.Need-returns
 unfolding resetRetry
 returns c =
@@ -35,11 +32,9 @@ returns c =
     let code : c .before .before .code-of .result ≡ codeOf card (c .before .before .before .before .before .args .h .p2) = c .before .before .code-of .ensures ∙ ap (codeOf card) number in
     simp (ne-eqb (codeOf card (c .before .before .before .before .before .args .h .p2) .tries) 0 (λ z. c .if1 .taken (ap (λ (v : Code). v .tries) code ∙ z)))
 
--- src/lib.rt:184:9
 unblock-by-verified-puk-requires : tie.Need-unblock-by-verified-puk-requires
 unblock-by-verified-puk-requires c κs = search needs
 
--- src/lib.rt:184:9
 returns-2 : tie.Need-returns-2
 unfolding resetRetry
 returns-2 c =
@@ -48,11 +43,9 @@ returns-2 c =
     let code : c .before .before .before .before .before .code-of .result ≡ codeOf card (c .before .before .before .before .before .before .before .before .args .h .p2) = c .before .before .before .before .before .code-of .ensures ∙ ap (codeOf card) number in
     simp (eq-eqb (codeOf card (c .before .before .before .before .before .before .before .before .args .h .p2) .tries) 0 (ap (λ (v : Code). v .tries) (sym code) ∙ c .before .before .before .if1 .left), eq-eqb (c .before .before .before .before .before .before .before .before .args .h .p1) 0x03 (c .before .if2 .taken)) (c .unblock-by-verified-puk .ensures ∙ ap (unblockByVerifiedPuk card) number)
 
--- src/lib.rt:186:5
 unblock-by-presented-puk-requires : tie.Need-unblock-by-presented-puk-requires
 unblock-by-presented-puk-requires c κs = search needs
 
--- src/lib.rt:171:1
 returns-3 : tie.Need-returns-3
 unfolding resetRetry
 returns-3 c =

@@ -27,23 +27,18 @@ use Rattle.codes.proofs.storing.Reads as storing-reads
 use Rattle.state.proofs.code_of.Reads as code-of-reads
 use Rattle.state.proofs.with_code.Reads as with-code-reads
 
--- src/lib.rt:166:9
 code-of-requires : tie.Need-code-of-requires
 code-of-requires c κs = search needs
 
--- src/lib.rt:167:41
 old-value-requires : tie.Need-old-value-requires
 old-value-requires c κs = search needs
 
--- src/lib.rt:167:9
 judge-requires : tie.Need-judge-requires
 judge-requires c κs = search needs
 
--- src/lib.rt:169:9
 follow-requires : tie.Need-follow-requires
 follow-requires c κs = search needs
 
--- src/lib.rt:169:9
 returns : tie.Need-returns
 unfolding unblockByPresentedPuk
 returns c =
@@ -53,19 +48,15 @@ returns c =
     let judged : c .before .before .before .judge .result ≡ judgementOf card 0 (oldValue card 0 d) = c .before .before .before .judge .ensures ∙ ap (judgementOf card 0) (c .before .before .before .before .old-value .ensures ∙ ap (λ (v : Code). take (v .len) d) puk) in
     c .follow .ensures ∙ old-wrong card 0 (c .before .before .before .before .before .before .before .args .pin) d _ (c .before .before .before .judge .result) judged (c .before .if1 .taken)
 
--- src/lib.rt:171:9
 new-value-requires : tie.Need-new-value-requires
 new-value-requires c κs = search needs
 
--- src/lib.rt:173:9
 allowed-requires : tie.Need-allowed-requires
 allowed-requires c κs = search needs
 
--- src/lib.rt:174:9
 disallowed-requires : tie.Need-disallowed-requires
 disallowed-requires c κs = search needs
 
--- src/lib.rt:174:9
 returns-2 : tie.Need-returns-2
 unfolding unblockByPresentedPuk
 returns-2 c =
@@ -77,23 +68,18 @@ returns-2 c =
     let same-test : c .before .before .allowed .result ≡ allowed (c .before .before .before .before .before .before .before .before .before .before .args .pin) (newValue card 0 d) = c .before .before .allowed .ensures ∙ ap (allowed (c .before .before .before .before .before .before .before .before .before .before .args .pin)) new in
     c .disallowed .ensures ∙ new-refused card 0 (c .before .before .before .before .before .before .before .before .before .before .args .pin) d _ (c .before .before .before .before .before .before .judge .result) judged (c .before .before .before .before .if1 .left) (ap not (sym same-test) ∙ c .before .if2 .taken)
 
--- src/lib.rt:176:46
 storing-requires : tie.Need-storing-requires
 storing-requires c κs = search needs
 
--- src/lib.rt:176:9
 with-code-requires : tie.Need-with-code-requires
 with-code-requires c κs = search needs
 
--- src/lib.rt:178:51
 renewed-requires : tie.Need-renewed-requires
 renewed-requires c κs = search needs
 
--- src/lib.rt:178:15
 with-code-requires-2 : tie.Need-with-code-requires-2
 with-code-requires-2 c κs = search needs
 
--- src/lib.rt:162:1
 returns-3 : tie.Need-returns-3
 unfolding unblockByPresentedPuk
 returns-3 c =

@@ -9,32 +9,25 @@ use Rattle.state.proofs.closed.Reads as closed-reads
 use Rattle.state.proofs.code_of.Reads as code-of-reads
 use Rattle.state.proofs.with_code.Reads as with-code-reads
 
--- src/lib.rt:131:9
 code-of-requires : tie.Need-code-of-requires
 code-of-requires c κs = search needs
 
--- src/lib.rt:133:9
 returns : tie.Need-returns
 unfolding unblockByVerifiedPuk
 returns c = simp (← c .before .before .code-of .ensures, c .if1 .taken)
 
--- src/lib.rt:138:24
 code-of-requires-2 : tie.Need-code-of-requires-2
 code-of-requires-2 c κs = search needs
 
--- src/lib.rt:138:9
 renewed-requires : tie.Need-renewed-requires
 renewed-requires c κs = search needs
 
--- src/lib.rt:140:29
 with-code-requires : tie.Need-with-code-requires
 with-code-requires c κs = search needs
 
--- src/lib.rt:140:15
 closed-requires : tie.Need-closed-requires
 closed-requires c κs = search needs
 
--- src/lib.rt:127:1
 returns-2 : tie.Need-returns-2
 unfolding unblockByVerifiedPuk
 returns-2 c = simp (c .closed .ensures, c .before .with-code .ensures, c .before .before .renewed .ensures, c .before .before .before .code-of2 .ensures, ← c .before .before .before .before .before .before .code-of .ensures, c .before .before .before .before .if1 .left)

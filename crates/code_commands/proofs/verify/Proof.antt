@@ -12,19 +12,15 @@ use Rattle.code_commands.proofs.follow.Reads as follow-reads
 use Rattle.code_commands.proofs.judge.Reads as judge-reads
 use Rattle.octets.proofs.wide.Reads as wide-reads
 
--- src/lib.rt:78:9
 wide-requires : tie.Need-wide-requires
 wide-requires c κs = search needs
 
--- src/lib.rt:79:12
 judge-requires : tie.Need-judge-requires
 judge-requires c κs = search needs
 
--- src/lib.rt:79:5
 follow-requires : tie.Need-follow-requires
 follow-requires c κs = search needs
 
--- src/lib.rt:74:1
 returns : tie.Need-returns
 returns c = c .follow .ensures ∙ verified-law (c .before .before .before .before .args .card) (c .before .before .before .before .args .h) (now (c .before .before .before .before .args .presented)) (c .before .judge .result) (c .before .judge .ensures ∙ ap (λ (k : ℕ). judgementOf (c .before .before .before .before .args .card) k (now (c .before .before .before .before .args .presented))) (c .before .before .wide .ensures))
 

@@ -7,15 +7,12 @@ use Rattle.codes.proofs.allowed.Lts as lts
 use Rattle.octets.proofs.all_digits.Reads as all-digits-reads
 use Rattle.rules.proofs.Code.least.Reads as least-reads
 
--- src/lib.rt:26:9
 all-digits-requires : tie.Need-all-digits-requires
 all-digits-requires c κs = search needs
 
--- src/lib.rt:27:6
 least-requires : tie.Need-least-requires
 least-requires c κs = search needs
 
--- src/lib.rt:22:1
 returns : tie.Need-returns
 unfolding allowed
 returns c = simp (c .least .ensures, c .before .all-digits .ensures)

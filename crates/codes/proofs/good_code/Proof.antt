@@ -10,31 +10,24 @@ use Rattle.octets.proofs.all_digits.Reads as all-digits-reads
 use Rattle.octets.proofs.part.Reads as part-reads
 use Rattle.rules.proofs.Code.least.Reads as least-reads
 
--- src/lib.rt:89:38
 slice-aggregate-good-room : tie.Need-slice-aggregate-good-room
 slice-aggregate-good-room c = search needs
 
--- src/lib.rt:89:9
 good-room-requires : tie.Need-good-room-requires
 good-room-requires c κs = search needs
 
--- src/lib.rt:90:51
 slice-aggregate-part : tie.Need-slice-aggregate-part
 slice-aggregate-part c = search needs
 
--- src/lib.rt:90:38
 part-requires : tie.Need-part-requires
 part-requires c κs = search needs
 
--- src/lib.rt:90:9
 all-digits-requires : tie.Need-all-digits-requires
 all-digits-requires c κs = search needs
 
--- src/lib.rt:91:9
 least-requires : tie.Need-least-requires
 least-requires c κs = search needs
 
--- src/lib.rt:83:1
 returns : tie.Need-returns
 unfolding goodCode
 returns c = simp (c .before .before .before .before .before .good-room .ensures, c .before .least .ensures, c .before .before .all-digits .ensures, c .before .before .before .part .ensures, and-true)

@@ -13,15 +13,12 @@ use Rattle.codes.proofs.good_room.Lts as lts
 use Rattle.octets.proofs.all_zero.Reads as all-zero-reads
 use Rattle.octets.proofs.part.Reads as part-reads
 
--- src/lib.rt:78:35
 part-requires : tie.Need-part-requires
 part-requires c κs = search needs
 
--- src/lib.rt:78:9
 all-zero-requires : tie.Need-all-zero-requires
 all-zero-requires c κs = search needs
 
--- src/lib.rt:74:1
 returns : tie.Need-returns
 unfolding goodRoom
 returns c =

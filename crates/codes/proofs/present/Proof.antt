@@ -8,37 +8,29 @@ use Rattle.codes.proofs.present.Lts as lts
 use Rattle.octets.proofs.equal.Reads as equal-reads
 use Rattle.octets.proofs.part.Reads as part-reads
 
--- src/lib.rt:49:9
 returns : tie.Need-returns
 unfolding presentOf
 returns c = simp (eq-eqb _ _ (c .if1 .taken))
 
--- src/lib.rt:57:42
 slice-aggregate-part : tie.Need-slice-aggregate-part
 slice-aggregate-part c = search needs
 
--- src/lib.rt:57:29
 part-requires : tie.Need-part-requires
 part-requires c κs = search needs
 
--- src/lib.rt:57:8
 equal-requires : tie.Need-equal-requires
 equal-requires c κs = search needs
 
--- src/lib.rt:60:9
 returns-2 : tie.Need-returns-2
 unfolding presentOf
 returns-2 c = simp (ne-eqb _ _ (c .before .before .before .before .before .if1 .left), ← c .before .before .part .ensures, ← c .before .equal .ensures, c .if2 .taken)
 
--- src/lib.rt:65:18
 sub-next : tie.Need-sub-next
 sub-next c = search needs
 
--- src/lib.rt:69:33
 sub-t14 : tie.Need-sub-t14
 sub-t14 c = search needs
 
--- src/lib.rt:44:1
 returns-3 : tie.Need-returns-3
 unfolding presentOf
 returns-3 c = simp (ne-eqb _ _ (c .before .before .before .before .before .if1 .left), ← c .before .before .part .ensures, ← c .before .equal .ensures, c .if2 .left)

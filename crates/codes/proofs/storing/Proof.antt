@@ -12,15 +12,12 @@ use Rattle.codes.proofs.storing.Lts as lts
 use Rattle.octets.proofs.filled_12.Reads as filled-12-reads
 use Rattle.octets.proofs.part.Reads as part-reads
 
--- src/lib.rt:34:9
 part-requires : tie.Need-part-requires
 part-requires c κs = search needs
 
--- src/lib.rt:36:17
 filled-12-requires : tie.Need-filled-12-requires
 filled-12-requires c κs = search needs
 
--- src/lib.rt:31:1
 returns : tie.Need-returns
 returns c =
     let d : Bytes = now (c .before .before .before .args .value) in

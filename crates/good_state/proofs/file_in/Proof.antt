@@ -6,12 +6,10 @@ use Rattle.good_state.proofs.file_in.Tie as tie
 use Rattle.good_state.proofs.file_in.Reads as reads
 use Rattle.good_state.proofs.file_in.Lts as lts
 
--- src/lib.rt:69:9
 returns : tie.Need-returns
 unfolding filesIn
 returns c = simp (eq-eqb _ _ (c .if1 .taken), or-false)
 
--- src/lib.rt:65:1
 returns-2 : tie.Need-returns-2
 unfolding filesIn
 returns-2 c = simp (ne-eqb _ _ (c .if1 .left), or-false)

@@ -10,43 +10,33 @@ use Rattle.good_state.proofs.good_records.Reads as good-records-reads
 use Rattle.good_state.proofs.good_references.Reads as good-references-reads
 use Rattle.good_state.proofs.good_session.Reads as good-session-reads
 
--- src/lib.rt:137:43
 element-copy-out-good-code : tie.Need-element-copy-out-good-code
 element-copy-out-good-code c = search needs
 
--- src/lib.rt:137:9
 good-code-requires : tie.Need-good-code-requires
 good-code-requires c κs = search needs
 
--- src/lib.rt:138:45
 element-copy-out-good-code-2 : tie.Need-element-copy-out-good-code-2
 element-copy-out-good-code-2 c = search needs
 
--- src/lib.rt:138:9
 good-code-requires-2 : tie.Need-good-code-requires-2
 good-code-requires-2 c κs = search needs
 
--- src/lib.rt:139:45
 element-copy-out-good-code-3 : tie.Need-element-copy-out-good-code-3
 element-copy-out-good-code-3 c = search needs
 
--- src/lib.rt:139:9
 good-code-requires-3 : tie.Need-good-code-requires-3
 good-code-requires-3 c κs = search needs
 
--- src/lib.rt:140:9
 good-references-requires : tie.Need-good-references-requires
 good-references-requires c κs = search needs
 
--- src/lib.rt:141:9
 good-records-requires : tie.Need-good-records-requires
 good-records-requires c κs = search needs
 
--- src/lib.rt:142:9
 good-session-requires : tie.Need-good-session-requires
 good-session-requires c κs = search needs
 
--- src/lib.rt:133:1
 returns : tie.Need-returns
 unfolding good
 returns c = simp (c .before .before .before .before .before .before .before .before .before .before .good-code .ensures, c .before .before .before .before .before .before .before .before .good-code2 .ensures, c .before .before .before .before .before .before .good-code3 .ensures, c .before .before .before .before .good-references .ensures, c .before .before .good-records .ensures, c .good-session .ensures, and-true)

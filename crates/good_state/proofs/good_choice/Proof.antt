@@ -5,11 +5,9 @@ use Rattle.good_state.proofs.good_choice.Reads as reads
 use Rattle.good_state.proofs.good_choice.Lts as lts
 use Rattle.keys.proofs.usable.Reads as usable-reads
 
--- src/lib.rt:86:9
 usable-requires : tie.Need-usable-requires
 usable-requires c κs = search needs
 
--- src/lib.rt:83:1
 returns : tie.Need-returns
 returns c = simp (c .usable .ensures)
 

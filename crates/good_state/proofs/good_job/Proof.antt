@@ -8,16 +8,13 @@ use Rattle.good_state.proofs.good_job.Reads as reads
 use Rattle.good_state.proofs.good_job.Lts as lts
 use Rattle.keys.proofs.usable.Reads as usable-reads
 
--- src/lib.rt:109:9
 returns : tie.Need-returns
 unfolding goodJob
 returns c = simp (eq-eqb _ _ (c .if1 .taken), and-true)
 
--- src/lib.rt:111:9
 usable-requires : tie.Need-usable-requires
 usable-requires c κs = search needs
 
--- src/lib.rt:102:1
 returns-2 : tie.Need-returns-2
 unfolding goodJob
 returns-2 c = simp (ne-eqb _ _ (c .before .if1 .left), c .usable .ensures, and-true)

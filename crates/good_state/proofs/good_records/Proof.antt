@@ -16,37 +16,29 @@ Inv-loop personal i₀ all₀ i all = (i ≤ 16) × (all ≡ goodRecords i perso
 abbrev μ-loop : tie.MeasureT-loop
 μ-loop personal i₀ all₀ i all = 16 - i
 
--- src/lib.rt:56:5
 loop-holds : tie.Need-loop-holds Inv-loop μ-loop
 unfolding goodRecords
 loop-holds c = (omega arith, refl)
 
--- src/lib.rt:57:22
 mul-record : tie.Need-mul-record Inv-loop μ-loop
 mul-record c = search needs
 
--- src/lib.rt:57:22
 array-copy-out-record : tie.Need-array-copy-out-record Inv-loop μ-loop
 array-copy-out-record c = search needs
 
--- src/lib.rt:58:21
 good-record-requires : tie.Need-good-record-requires Inv-loop μ-loop
 good-record-requires c κs = search needs
 
--- src/lib.rt:59:9
 add-i : tie.Need-add-i Inv-loop μ-loop
 add-i c = omega arith
 
--- src/lib.rt:56:5
 loop-less : tie.Need-loop-less Inv-loop μ-loop
 loop-less c = omega arith
 
--- src/lib.rt:56:5
 loop-again : tie.Need-loop-again Inv-loop μ-loop
 unfolding goodRecords
 loop-again c = (omega arith, simp (add-one, c .before .before .before .loop .inv .1, c .good-record .ensures))
 
--- src/lib.rt:51:1
 returns : tie.Need-returns Inv-loop μ-loop
 returns c = c .before .loop .inv .1 ∙ ap (λ (n : ℕ). goodRecords n (c .before .before .args .t1)) (omega arith)
 

@@ -9,31 +9,24 @@ use Rattle.good_state.proofs.sized.Reads as sized-reads
 use Rattle.keys.proofs.active_key.Reads as active-key-reads
 use Rattle.keys.proofs.usable.Reads as usable-reads
 
--- src/lib.rt:22:22
 slice-aggregate-sized : tie.Need-slice-aggregate-sized
 slice-aggregate-sized c = search needs
 
--- src/lib.rt:22:9
 sized-requires : tie.Need-sized-requires
 sized-requires c κs = search needs
 
--- src/lib.rt:23:48
 active-key-requires : tie.Need-active-key-requires
 active-key-requires c κs = search needs
 
--- src/lib.rt:23:9
 usable-requires : tie.Need-usable-requires
 usable-requires c κs = search needs
 
--- src/lib.rt:24:43
 active-key-requires-2 : tie.Need-active-key-requires-2
 active-key-requires-2 c κs = search needs
 
--- src/lib.rt:24:9
 usable-requires-2 : tie.Need-usable-requires-2
 usable-requires-2 c κs = search needs
 
--- src/lib.rt:19:1
 returns : tie.Need-returns
 unfolding goodReferences
 returns c = simp (c .before .before .before .before .sized .ensures, c .before .before .usable .ensures, c .usable2 .ensures, c .before .before .before .active-key .ensures, c .before .active-key2 .ensures, and-true)

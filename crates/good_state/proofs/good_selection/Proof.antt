@@ -7,11 +7,9 @@ use Rattle.good_state.proofs.good_selection.Reads as reads
 use Rattle.good_state.proofs.good_selection.Lts as lts
 use Rattle.good_state.proofs.file_in.Reads as file-in-reads
 
--- src/lib.rt:79:9
 file-in-requires : tie.Need-file-in-requires
 file-in-requires c κs = search needs
 
--- src/lib.rt:74:1
 returns : tie.Need-returns
 unfolding goodSelection
 returns c = simp (c .file-in .ensures, and-true)

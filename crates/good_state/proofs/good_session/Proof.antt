@@ -10,35 +10,27 @@ use Rattle.good_state.proofs.good_environment.Reads as good-environment
 use Rattle.good_state.proofs.good_job.Reads as good-job-reads
 use Rattle.good_state.proofs.good_selection.Reads as good-selection-reads
 
--- src/lib.rt:123:43
 slice-aggregate-good-room : tie.Need-slice-aggregate-good-room
 slice-aggregate-good-room c = search needs
 
--- src/lib.rt:123:9
 good-room-requires : tie.Need-good-room-requires
 good-room-requires c κs = search needs
 
--- src/lib.rt:124:44
 slice-aggregate-good-room-2 : tie.Need-slice-aggregate-good-room-2
 slice-aggregate-good-room-2 c = search needs
 
--- src/lib.rt:124:9
 good-room-requires-2 : tie.Need-good-room-requires-2
 good-room-requires-2 c κs = search needs
 
--- src/lib.rt:126:9
 good-selection-requires : tie.Need-good-selection-requires
 good-selection-requires c κs = search needs
 
--- src/lib.rt:127:9
 good-environment-requires : tie.Need-good-environment-requires
 good-environment-requires c κs = search needs
 
--- src/lib.rt:128:9
 good-job-requires : tie.Need-good-job-requires
 good-job-requires c κs = search needs
 
--- src/lib.rt:115:1
 returns : tie.Need-returns
 unfolding goodSession
 returns c = simp (c .before .before .before .before .before .before .before .before .good-room .ensures, c .before .before .before .before .before .before .good-room2 .ensures, c .before .before .good-selection .ensures, c .before .good-environment .ensures, c .good-job .ensures, and-true)

@@ -7,36 +7,28 @@ use Rattle.keys.proofs.active_key.Reads as reads
 use Rattle.keys.proofs.active_key.Lts as lts
 use Rattle.octets.proofs.word.Reads as word-reads
 
--- src/lib.rt:48:29
 array-read-word : tie.Need-array-read-word
 array-read-word c = search needs
 
--- src/lib.rt:48:45
 array-read-word-2 : tie.Need-array-read-word-2
 array-read-word-2 c = search needs
 
--- src/lib.rt:48:9
 word-requires : tie.Need-word-requires
 word-requires c κs = search needs
 
--- src/lib.rt:48:9
 returns : tie.Need-returns
 unfolding activeKey
 returns c = simp (eq-eqb _ _ (c .before .if1 .taken)) (c .word .ensures)
 
--- src/lib.rt:50:18
 array-read-word-3 : tie.Need-array-read-word-3
 array-read-word-3 c = search needs
 
--- src/lib.rt:50:33
 array-read-word-4 : tie.Need-array-read-word-4
 array-read-word-4 c = search needs
 
--- src/lib.rt:50:5
 word-requires-2 : tie.Need-word-requires-2
 word-requires-2 c κs = search needs
 
--- src/lib.rt:44:1
 returns-2 : tie.Need-returns-2
 unfolding activeKey
 returns-2 c = simp (ne-eqb _ _ (c .before .if1 .left)) (c .word2 .ensures)

@@ -8,20 +8,16 @@ use Rattle.keys.proofs.of_class.Lts as lts
 use Rattle.keys.proofs.is_authentication_key.Reads as is-authentication-key-reads
 use Rattle.keys.proofs.is_signature_key.Reads as is-signature-key-reads
 
--- src/lib.rt:23:9
 is-signature-key-requires : tie.Need-is-signature-key-requires
 is-signature-key-requires c κs = search needs
 
--- src/lib.rt:23:9
 returns : tie.Need-returns
 unfolding ofClass
 returns c = simp (eq-eqb _ _ (c .before .if1 .taken)) (c .is-signature-key .ensures)
 
--- src/lib.rt:25:5
 is-authentication-key-requires : tie.Need-is-authentication-key-requires
 is-authentication-key-requires c κs = search needs
 
--- src/lib.rt:19:1
 returns-2 : tie.Need-returns-2
 unfolding ofClass
 returns-2 c = simp (ne-eqb _ _ (c .before .if1 .left)) (c .is-authentication-key .ensures)

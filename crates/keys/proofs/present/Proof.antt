@@ -6,23 +6,18 @@ use Rattle.keys.proofs.present.Tie as tie
 use Rattle.keys.proofs.present.Reads as reads
 use Rattle.keys.proofs.present.Lts as lts
 
--- src/lib.rt:32:23
 array-read-result : tie.Need-array-read-result
 array-read-result c = search needs
 
--- src/lib.rt:32:51
 array-read-result-2 : tie.Need-array-read-result-2
 array-read-result-2 c = search needs
 
--- src/lib.rt:32:79
 array-read-result-3 : tie.Need-array-read-result-3
 array-read-result-3 c = search needs
 
--- src/lib.rt:32:107
 array-read-result-4 : tie.Need-array-read-result-4
 array-read-result-4 c = search needs
 
--- src/lib.rt:29:1
 returns : tie.Need-returns
 unfolding present
 returns c = refl

@@ -6,15 +6,12 @@ use Rattle.keys.proofs.usable.Lts as lts
 use Rattle.keys.proofs.of_class.Reads as of-class-reads
 use Rattle.keys.proofs.present.Reads as present-reads
 
--- src/lib.rt:39:9
 present-requires : tie.Need-present-requires
 present-requires c κs = search needs
 
--- src/lib.rt:40:12
 of-class-requires : tie.Need-of-class-requires
 of-class-requires c κs = search needs
 
--- src/lib.rt:36:1
 returns : tie.Need-returns
 returns c = simp (c .before .present .ensures, c .of-class .ensures)
 

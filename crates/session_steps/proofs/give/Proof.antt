@@ -17,15 +17,12 @@ use Rattle.session_steps.proofs.session_data.Reads as session-data-read
 use Rattle.session_steps.proofs.session_status.Reads as session-status-reads
 use Rattle.state.proofs.with_held.Reads as with-held-reads
 
--- src/lib.rt:55:9
 part-requires : tie.Need-part-requires
 part-requires c κs = search needs
 
--- src/lib.rt:58:9
 session-data-requires : tie.Need-session-data-requires
 session-data-requires c κs = search needs
 
--- src/lib.rt:58:9
 returns : tie.Need-returns
 returns c =
     let d : Bytes = now (c .before .before .before .before .args .d) in
@@ -36,19 +33,15 @@ returns c =
     ∙ give-all (c .before .before .before .before .args .s) (c .before .before .before .before .args .le) b (c .before .if1 .taken)
     ∙ ap (give (c .before .before .before .before .args .s) (c .before .before .before .before .args .le)) cut
 
--- src/lib.rt:60:20
 with-held-requires : tie.Need-with-held-requires
 with-held-requires c κs = search needs
 
--- src/lib.rt:60:48
 more-bytes-requires : tie.Need-more-bytes-requires
 more-bytes-requires c κs = cut-length 256 (now (c .before .before .part .result)) (now (c .before .before .before .before .args .d)) (c .before .before .part .ensures)
 
--- src/lib.rt:60:5
 session-status-requires : tie.Need-session-status-requires
 session-status-requires c κs = search needs
 
--- src/lib.rt:52:1
 returns-2 : tie.Need-returns-2
 returns-2 c =
     let d : Bytes = now (c .before .before .before .before .before .before .args .d) in

@@ -7,19 +7,15 @@ use Rattle.answers.proofs.handed_out.Reads as handed-out-reads
 use Rattle.answers.proofs.kind_number.Reads as kind-number-reads
 use Rattle.state.proofs.with_job.Reads as with-job-reads
 
--- src/lib.rt:68:15
 kind-number-requires : tie.Need-kind-number-requires
 kind-number-requires c κs = search needs
 
--- src/lib.rt:72:9
 handed-out-requires : tie.Need-handed-out-requires
 handed-out-requires c κs = search needs
 
--- src/lib.rt:74:18
 with-job-requires : tie.Need-with-job-requires
 with-job-requires c κs = search needs
 
--- src/lib.rt:64:1
 returns : tie.Need-returns
 returns c = simp (c .before .handed-out .ensures, c .with-job .ensures, c .before .before .kind-number .ensures)
 

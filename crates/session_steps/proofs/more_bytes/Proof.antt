@@ -6,20 +6,16 @@ use Rattle.session_steps.proofs.more_bytes.Tie as tie
 use Rattle.session_steps.proofs.more_bytes.Reads as reads
 use Rattle.session_steps.proofs.more_bytes.Lts as lts
 
--- src/lib.rt:46:9
 returns : tie.Need-returns
 unfolding moreBytes
 returns c = simp (eq-eqb _ _ (c .if1 .taken))
 
--- src/lib.rt:48:14
 cast-result : tie.Need-cast-result
 cast-result c = search needs
 
--- src/lib.rt:48:5
 add-result : tie.Need-add-result
 add-result c = search needs
 
--- src/lib.rt:41:1
 returns-2 : tie.Need-returns-2
 unfolding moreBytes
 returns-2 c = simp (ne-eqb _ _ (c .if1 .left))

@@ -5,11 +5,9 @@ use Rattle.session_steps.proofs.session_data.Reads as reads
 use Rattle.session_steps.proofs.session_data.Lts as lts
 use Rattle.answers.proofs.with_data.Reads as with-data-reads
 
--- src/lib.rt:33:9
 with-data-requires : tie.Need-with-data-requires
 with-data-requires c κs = search needs
 
--- src/lib.rt:30:1
 returns : tie.Need-returns
 returns c = simp (c .with-data .ensures)
 

@@ -5,11 +5,9 @@ use Rattle.session_steps.proofs.session_status.Reads as reads
 use Rattle.session_steps.proofs.session_status.Lts as lts
 use Rattle.answers.proofs.status.Reads as status-reads
 
--- src/lib.rt:22:9
 status-requires : tie.Need-status-requires
 status-requires c κs = search needs
 
--- src/lib.rt:19:1
 returns : tie.Need-returns
 returns c = simp (c .status .ensures)
 

@@ -7,19 +7,15 @@ use Rattle.state.proofs.drop_chain.Reads as drop-chain-reads
 use Rattle.state.proofs.drop_held.Reads as drop-held-reads
 use Rattle.state.proofs.with_session.Reads as with-session-reads
 
--- src/lib.rt:168:34
 drop-chain-requires : tie.Need-drop-chain-requires
 drop-chain-requires c κs = search needs
 
--- src/lib.rt:168:24
 drop-held-requires : tie.Need-drop-held-requires
 drop-held-requires c κs = search needs
 
--- src/lib.rt:168:5
 with-session-requires : tie.Need-with-session-requires
 with-session-requires c κs = search needs
 
--- src/lib.rt:164:1
 returns : tie.Need-returns
 returns c = simp (c .with-session .ensures, c .before .drop-held .ensures, c .before .before .drop-chain .ensures)
 

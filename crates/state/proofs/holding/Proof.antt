@@ -11,15 +11,12 @@ use Rattle.state.proofs.holding.Lts as lts
 use Rattle.octets.proofs.filled_256.Reads as filled-256-reads
 use Rattle.octets.proofs.part.Reads as part-reads
 
--- src/lib.rt:52:9
 part-requires : tie.Need-part-requires
 part-requires c κs = search needs
 
--- src/lib.rt:54:16
 filled-256-requires : tie.Need-filled-256-requires
 filled-256-requires c κs = search needs
 
--- src/lib.rt:49:1
 returns : tie.Need-returns
 returns c =
     let d : Bytes = now (c .before .before .before .args .d) in

@@ -11,15 +11,12 @@ use Rattle.state.proofs.joining.Lts as lts
 use Rattle.octets.proofs.filled_257.Reads as filled-257-reads
 use Rattle.octets.proofs.part.Reads as part-reads
 
--- src/lib.rt:62:9
 part-requires : tie.Need-part-requires
 part-requires c κs = search needs
 
--- src/lib.rt:64:16
 filled-257-requires : tie.Need-filled-257-requires
 filled-257-requires c κs = search needs
 
--- src/lib.rt:59:1
 returns : tie.Need-returns
 returns c =
     let d : Bytes = now (c .before .before .before .args .d) in

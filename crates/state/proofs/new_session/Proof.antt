@@ -7,23 +7,18 @@ use Rattle.state.proofs.new_session.Lts as lts
 use Rattle.state.proofs.holding.Reads as holding-reads
 use Rattle.state.proofs.joining.Reads as joining-reads
 
--- src/lib.rt:150:24
 slice-aggregate-holding : tie.Need-slice-aggregate-holding
 slice-aggregate-holding c = search needs
 
--- src/lib.rt:150:9
 holding-requires : tie.Need-holding-requires
 holding-requires c κs = search needs
 
--- src/lib.rt:151:25
 slice-aggregate-joining : tie.Need-slice-aggregate-joining
 slice-aggregate-joining c = search needs
 
--- src/lib.rt:151:9
 joining-requires : tie.Need-joining-requires
 joining-requires c κs = search needs
 
--- src/lib.rt:134:1
 returns : tie.Need-returns
 unfolding newSession
 returns c = simp (c .before .before .holding .ensures, c .joining .ensures)

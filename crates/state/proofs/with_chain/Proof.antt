@@ -5,11 +5,9 @@ use Rattle.state.proofs.with_chain.Reads as reads
 use Rattle.state.proofs.with_chain.Lts as lts
 use Rattle.state.proofs.joining.Reads as joining-reads
 
--- src/lib.rt:104:9
 joining-requires : tie.Need-joining-requires
 joining-requires c κs = search needs
 
--- src/lib.rt:101:1
 returns : tie.Need-returns
 returns c = simp (c .joining .ensures)
 

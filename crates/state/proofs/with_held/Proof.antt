@@ -5,11 +5,9 @@ use Rattle.state.proofs.with_held.Reads as reads
 use Rattle.state.proofs.with_held.Lts as lts
 use Rattle.state.proofs.holding.Reads as holding-reads
 
--- src/lib.rt:95:9
 holding-requires : tie.Need-holding-requires
 holding-requires c κs = search needs
 
--- src/lib.rt:92:1
 returns : tie.Need-returns
 returns c = simp (c .holding .ensures)
 

@@ -5,17 +5,14 @@ use Rattle.rules.proofs.Code.least.Tie as tie
 use Rattle.rules.proofs.Code.least.Reads as reads
 use Rattle.rules.proofs.Code.least.Lts as lts
 
--- src/lib.rt:30:5
 returns : tie.Need-returns
 unfolding least
 returns c = simp (eq-eqb _ _ (c .match .keys1))
 
--- src/lib.rt:30:5
 returns-2 : tie.Need-returns-2
 unfolding least
 returns-2 c = simp (c .match .keys2)
 
--- src/lib.rt:30:5
 returns-3 : tie.Need-returns-3
 unfolding least
 returns-3 c = simp (ne-eqb _ _ (c .match .rest .0 .1), ne-eqb _ _ (c .match .rest .1))

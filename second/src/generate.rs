@@ -1,0 +1,536 @@
+//! A generator of transcript lines. It plays each line on a session of its own,
+//! so that it knows the present codes, the waiting job and the held answer.
+
+use crate::card::digest_heads;
+use crate::state::{shortest_code, DECIPHER, PIN1, PIN2, PUK};
+use crate::transcript::Transcript;
+use crate::{hex, padding};
+use std::collections::VecDeque;
+
+/// splitmix64
+pub struct Random(pub u64);
+
+impl Random {
+    pub fn next(&mut self) -> u64 {
+        self.0 = self.0.wrapping_add(0x9E37_79B9_7F4A_7C15);
+        let mut z = self.0;
+        z = (z ^ (z >> 30)).wrapping_mul(0xBF58_476D_1CE4_E5B9);
+        z = (z ^ (z >> 27)).wrapping_mul(0x94D0_49BB_1331_11EB);
+        z ^ (z >> 31)
+    }
+
+    /// 0 to n-1.
+    pub fn below(&mut self, n: usize) -> usize {
+        (self.next() % n as u64) as usize
+    }
+
+    pub fn between(&mut self, low: usize, high: usize) -> usize {
+        low + self.below(high - low + 1)
+    }
+
+    pub fn percent(&mut self, p: usize) -> bool {
+        self.below(100) < p
+    }
+
+    pub fn byte(&mut self) -> u8 {
+        self.next() as u8
+    }
+
+    pub fn bytes(&mut self, n: usize) -> Vec<u8> {
+        (0..n).map(|_| self.byte()).collect()
+    }
+
+    pub fn digits(&mut self, n: usize) -> Vec<u8> {
+        (0..n).map(|_| b'0' + self.below(10) as u8).collect()
+    }
+
+    pub fn pick<T: Clone>(&mut self, list: &[T]) -> T {
+        list[self.below(list.len())].clone()
+    }
+}
+
+pub struct Generator {
+    random: Random,
+    session: Transcript,
+    pending: VecDeque<Vec<u8>>,
+    made: usize,
+    total: usize,
+    /// Seeds 3, 7, 11, ... may block PUK at any time; others only near the end,
+    /// because nothing unblocks PUK.
+    reckless: bool,
+}
+
+impl Generator {
+    pub fn new(seed: u64, total: usize) -> Self {
+        Generator {
+            random: Random(seed),
+            session: Transcript::sample(),
+            pending: VecDeque::new(),
+            made: 0,
+            total,
+            reckless: seed % 4 == 3,
+        }
+    }
+
+    fn line(&mut self, line: Vec<u8>) {
+        let mut after = self.session.clone();
+        after.line(&line);
+        let protected = !self.reckless && self.made < self.total - self.total / 10;
+        if protected && after.card.codes[PUK].tries == 0 {
+            return;
+        }
+        self.session = after;
+        self.made += 1;
+        self.pending.push_back(line);
+    }
+
+    fn call(&mut self, letter: u8, bytes: &[u8]) {
+        let mut line = vec![letter];
+        line.extend(hex::encode(bytes).bytes());
+        self.line(line);
+    }
+
+    /// A command line, now and then damaged or preceded by another line.
+    fn send(&mut self, class: u8, ins: u8, p1: u8, p2: u8, data: &[u8], le: Option<u8>) {
+        if self.random.percent(3) {
+            self.interruption();
+        }
+        let mut apdu = vec![class, ins, p1, p2];
+        if !data.is_empty() {
+            apdu.push(data.len() as u8);
+            apdu.extend(data);
+        }
+        apdu.extend(le);
+        if self.random.percent(5) {
+            self.damage(&mut apdu);
+        }
+        self.call(b'C', &apdu);
+    }
+
+    fn damage(&mut self, apdu: &mut Vec<u8>) {
+        let r = &mut self.random;
+        match r.below(9) {
+            0 => apdu[0] = r.pick(&[0x10, 0x10, 0x80, 0x01, 0xFF]),
+            1 => apdu[1] = r.pick(&[0xA4, 0xB2, 0xB0, 0xC0, 0x20, 0x24, 0x2C, 0x22, 0x88, 0x2A, 0x84, 0xCA, 0x00]),
+            2 => apdu[2] = r.pick(&[0x00, 0x01, 0x02, 0x03, 0x41, 0xF3, 0x80, 0x9E, 0x7F, 0xFF]),
+            3 => apdu[3] = r.pick(&[0x00, 0x01, 0x02, 0x03, 0x04, 0x06, 0x0C, 0xA4, 0xB6, 0xB8, 0x86, 0x9A]),
+            4 => apdu.truncate(r.below(apdu.len())),
+            5 => apdu.push(r.byte()),
+            6 if apdu.len() > 4 => apdu[4] = r.pick(&[0, 1, apdu[4].wrapping_sub(1), apdu[4].wrapping_add(1)]),
+            7 => {
+                let at = r.below(apdu.len());
+                apdu[at] = r.byte();
+            }
+            _ => {
+                let at = r.below(apdu.len());
+                apdu[at] ^= 1 << r.below(8);
+            }
+        }
+    }
+
+    /// A single line that may drop a held answer or a chain, or do nothing.
+    fn interruption(&mut self) {
+        match self.random.below(7) {
+            0 => self.line(b"P".to_vec()),
+            1 => self.malformed(),
+            2 => self.call(b'D', &[]),
+            3 => self.call(b'C', &[]),
+            4 => self.call(b'C', &[0x00, 0xA4, 0x00, 0x0C]),
+            5 => self.call(b'C', &[0x00, 0xC0, 0x00, 0x00, 0x01]),
+            _ => self.call(b'C', &[0x00, 0x22, 0xF3, 0x02]),
+        }
+    }
+
+    fn malformed(&mut self) {
+        let r = &mut self.random;
+        let line: Vec<u8> = match r.below(14) {
+            0 => vec![],
+            1 => b"p".to_vec(),
+            2 => b"P ".to_vec(),
+            3 => b"P\r".to_vec(),
+            4 => b"C00a4000c".to_vec(),
+            5 => b"C00A4000".to_vec(),
+            6 => b"C 00A4000C".to_vec(),
+            7 => b"c00A4000C".to_vec(),
+            8 => format!("D{}", "0".repeat(r.pick(&[511, 513, 1023]))).into_bytes(),
+            9 => format!("{}{}", r.pick(&["C", "D"]), "0".repeat(r.pick(&[1022, 1024, 1026, 5000, 70_000]))).into_bytes(),
+            10 => "P".repeat(r.pick(&[2, 1024, 1025])).into_bytes(),
+            11 => {
+                let n = r.below(40);
+                r.bytes(n).into_iter().filter(|b| *b != b'\n').collect()
+            }
+            12 => b"C0G".to_vec(),
+            _ => {
+                let letter = r.pick(b"ABEHJRX? ");
+                vec![letter, b'0', b'0']
+            }
+        };
+        self.line(line);
+    }
+
+    fn maybe_le(&mut self) -> Option<u8> {
+        let le = self.random.byte();
+        self.random.pick(&[None, Some(0), Some(0), Some(0), Some(1), Some(0xFF), Some(le)])
+    }
+
+    fn stored(&self, code: usize) -> Vec<u8> {
+        self.session.card.codes[code].value.get().to_vec()
+    }
+
+    /// A value for a code, the stored one with this chance.
+    fn value(&mut self, code: usize, right: usize) -> Vec<u8> {
+        let mut value = self.stored(code);
+        if self.random.percent(right) {
+            return value;
+        }
+        let r = &mut self.random;
+        match r.below(6) {
+            0 => value.truncate(r.between(1, value.len() - 1)),
+            1 => value.push(r.pick(&[b'0', 0x00, 0xFF, b'9'])),
+            2 => value = b"9999".to_vec(),
+            3 => {
+                let n = r.between(1, 14);
+                value = r.digits(n);
+            }
+            4 => value.extend([0; 12]),
+            _ => {
+                let at = r.below(value.len());
+                value[at] ^= r.pick(&[1, 2, 0x80]);
+            }
+        }
+        value
+    }
+
+    /// A new value for a code, mostly allowed.
+    fn new_value(&mut self, code: usize) -> Vec<u8> {
+        let shortest = shortest_code(code);
+        let r = &mut self.random;
+        let n = r.pick(&[shortest, shortest, shortest + 1, 11, 12, 12, shortest - 1, 13, 0, 2]);
+        let mut new = r.digits(n);
+        if n > 0 && r.percent(10) {
+            let at = r.below(n);
+            new[at] = r.pick(&[0x2F, 0x3A, 0x00, 0xFF, b'A']);
+        }
+        new
+    }
+
+    fn any_code(&mut self) -> usize {
+        self.random.pick(&[PUK, PIN1, PIN1, PIN2, PIN2])
+    }
+
+    fn verify(&mut self, code: usize, right: usize) {
+        let value = self.value(code, right);
+        let le = self.random.pick(&[None, None, None, Some(0)]);
+        self.send(0x00, 0x20, 0x00, code as u8, &value, le);
+    }
+
+    fn change(&mut self) {
+        let code = self.any_code();
+        let mut data = self.value(code, 75);
+        data.extend(self.new_value(code));
+        self.send(0x00, 0x24, 0x00, code as u8, &data, None);
+    }
+
+    fn unblock(&mut self, pin: usize) {
+        if self.random.percent(45) {
+            if self.random.percent(75) {
+                self.verify(PUK, 90);
+            }
+            let stray: &[u8] = if self.random.percent(5) { b"12345678" } else { &[] };
+            self.send(0x00, 0x2C, 0x03, pin as u8, stray, None);
+        } else {
+            let mut data = self.value(PUK, 80);
+            data.extend(self.new_value(pin));
+            if self.random.percent(4) {
+                data.clear();
+            }
+            self.send(0x00, 0x2C, 0x00, pin as u8, &data, None);
+        }
+    }
+
+    fn block_and_unblock(&mut self) {
+        let pin = self.random.pick(&[PIN1, PIN2]);
+        for _ in 0..self.random.between(1, 5) {
+            self.verify(pin, 5);
+        }
+        if self.random.percent(30) {
+            self.read_code_records();
+        }
+        for _ in 0..self.random.between(1, 4) {
+            if self.random.percent(25) {
+                self.verify(PUK, 80);
+            } else {
+                self.unblock(pin);
+            }
+        }
+    }
+
+    fn read_code_records(&mut self) {
+        self.send(0x00, 0xA4, 0x00, 0x0C, &[], None);
+        self.send(0x00, 0xA4, 0x02, 0x0C, &[0x00, 0x16], None);
+        for record in 1..=3 {
+            self.send(0x00, 0xB2, record, 0x04, &[], Some(0));
+        }
+    }
+
+    fn select(&mut self) {
+        let id = self.random.pick(&[0x0016u16, 0x5044, 0x5044, 0x0033, 0xAACE, 0xDDCE, 0xEEEE, 0x3F00, 0x0000]);
+        let id = id.to_be_bytes();
+        let le = self.random.pick(&[None, None, Some(0)]);
+        match self.random.below(10) {
+            0 | 1 => self.send(0x00, 0xA4, 0x00, 0x0C, &[], le),
+            2..=4 => self.send(0x00, 0xA4, 0x01, 0x0C, &[0xEE, 0xEE], le),
+            5 => self.send(0x00, 0xA4, 0x01, 0x0C, &id, le),
+            6 => self.send(0x00, 0xA4, 0x02, 0x0C, &id[..1], le),
+            _ => self.send(0x00, 0xA4, 0x02, 0x0C, &id, le),
+        }
+    }
+
+    /// Into EEEEh, to one of its files, and reads there.
+    fn browse(&mut self) {
+        let id = self.random.pick(&[0x5044u16, 0x0033, 0xAACE, 0xAACE, 0xDDCE, 0xDDCE]);
+        self.send(0x00, 0xA4, 0x00, 0x0C, &[], None);
+        self.send(0x00, 0xA4, 0x01, 0x0C, &[0xEE, 0xEE], None);
+        self.send(0x00, 0xA4, 0x02, 0x0C, &id.to_be_bytes(), None);
+        for _ in 0..self.random.between(1, 4) {
+            self.read();
+        }
+    }
+
+    fn read(&mut self) {
+        let le = self.maybe_le();
+        match self.random.below(2) {
+            0 => {
+                let any = self.random.below(1600);
+                let offset = self.random.pick(&[0, 1, 6, 7, 255, 256, 343, 344, 345, 599, 600, 1535, 1536, 0x7FFF, 0x8000, any, any, any]);
+                let [p1, p2] = (offset as u16).to_be_bytes();
+                self.send(0x00, 0xB0, p1, p2, &[], le);
+            }
+            _ => {
+                let record = self.random.pick(&[0, 1, 1, 2, 3, 4, 15, 16, 17, 255]);
+                let le = self.random.pick(&[le, Some(5), Some(6), Some(9), Some(10), Some(20), Some(21)]);
+                self.send(0x00, 0xB2, record, 0x04, &[], le);
+                self.get_responses();
+            }
+        }
+    }
+
+    /// Takes what is held in pieces.
+    fn get_responses(&mut self) {
+        for _ in 0..6 {
+            let held = self.session.card.held.length;
+            if held == 0 && !self.random.percent(10) {
+                return;
+            }
+            let le = self.random.pick(&[0, 1, 2, 100, held.wrapping_sub(1) as u8, held as u8, held as u8 ^ 1]);
+            self.send(0x00, 0xC0, 0x00, 0x00, &[], Some(le));
+        }
+    }
+
+    fn environment(&mut self) {
+        let number = self.random.pick(&[1, 1, 1, 6, 6, 6, 0, 2, 7, 0xFF]);
+        self.send(0x00, 0x22, 0xF3, number, &[], None);
+    }
+
+    fn choose_key(&mut self) {
+        let kind = self.random.pick(&[0xA4, 0xB6, 0xB8, 0xB8, 0xB4]);
+        let key = self.random.pick(&[0x0100u16, 0x0200, 0x1100, 0x1200, 0x0300, 0x0000]).to_be_bytes();
+        let mut data = vec![0x83, 0x03, 0x80, key[0], key[1]];
+        match self.random.below(10) {
+            0 | 1 => data = vec![0x83, 0x00],
+            2 => data.truncate(4),
+            3 => data.push(0x00),
+            4 => data[self.random.below(3)] ^= 1,
+            _ => {}
+        }
+        self.send(0x00, 0x22, 0x41, kind, &data, None);
+    }
+
+    fn authenticate(&mut self) {
+        if self.random.percent(40) {
+            self.send(0x00, 0x22, 0xF3, 0x01, &[], None);
+        }
+        if self.random.percent(70) {
+            self.verify(PIN1, 95);
+        }
+        let n = self.random.pick(&[1, 20, 35, 51, 244, 245, 245, 246, 255, 0]);
+        let data = self.random.bytes(n);
+        let le = self.maybe_le();
+        self.send(0x00, 0x88, 0x00, 0x00, &data, le);
+        self.deliver();
+    }
+
+    fn sign(&mut self) {
+        if self.random.percent(40) {
+            self.send(0x00, 0x22, 0xF3, 0x01, &[], None);
+        }
+        if self.random.percent(75) {
+            self.verify(PIN2, 95);
+        }
+        let (mut digest, hash) = self.random.pick(&digest_heads());
+        digest.extend(self.random.bytes(hash));
+        if self.random.percent(25) {
+            match self.random.below(4) {
+                0 => digest.truncate(self.random.between(1, digest.len() - 1)),
+                1 => digest.push(0),
+                2 => digest = self.random.bytes(20),
+                _ => digest[self.random.below(15)] ^= 1 << self.random.below(8),
+            }
+        }
+        let le = self.maybe_le();
+        self.send(0x00, 0x2A, 0x9E, 0x9A, &digest, le);
+        if self.session.card.job.is_none() || self.random.percent(85) {
+            self.deliver();
+        }
+        if self.random.percent(30) {
+            self.send(0x00, 0x2A, 0x9E, 0x9A, &digest, le); // PIN2 is closed now
+            self.deliver();
+        }
+    }
+
+    fn decipher(&mut self) {
+        if self.random.percent(70) {
+            self.send(0x00, 0x22, 0xF3, 0x06, &[], None);
+            self.verify(PIN1, 95);
+        }
+        let first = if self.random.percent(92) { 0 } else { 0x81 };
+        let parts: &[usize] = self.random.pick(&[
+            &[255, 2], &[255, 2], &[255, 2], &[255, 1], &[255, 3], &[128, 129], &[1, 255, 1], &[100, 100, 57], &[255, 1, 1],
+            &[1, 254, 2], &[255, 2, 1], &[200, 200], &[2, 255], &[255, 255, 2], &[1], &[10, 10], &[255],
+        ]);
+        for (place, n) in parts.iter().enumerate() {
+            let mut data = self.random.bytes(*n);
+            if place == 0 {
+                data[0] = first;
+            }
+            let mut class = if place + 1 < parts.len() { 0x10 } else { 0x00 };
+            if self.random.percent(6) {
+                class ^= 0x10;
+            }
+            let le = self.maybe_le();
+            self.send(class, 0x2A, 0x80, 0x86, &data, le);
+        }
+        self.deliver();
+    }
+
+    /// A result of the key host; sometimes something else comes first.
+    fn deliver(&mut self) {
+        let Some(job) = self.session.card.job else {
+            if self.random.percent(5) {
+                self.call(b'D', &[0; 256]);
+            }
+            return;
+        };
+        if self.random.percent(12) {
+            self.interruption();
+        }
+        let mut result = self.random.bytes(256);
+        if job.kind == DECIPHER {
+            result = self.deciphered();
+        }
+        match self.random.below(20) {
+            0 => result.truncate(255),
+            1 => result.push(0),
+            2 => result.truncate(self.random.below(256)),
+            _ => {}
+        }
+        self.call(b'D', &result);
+        if self.random.percent(70) {
+            self.get_responses();
+        }
+    }
+
+    fn deciphered(&mut self) -> Vec<u8> {
+        let r = &mut self.random;
+        let n = r.pick(&[0, 0, 1, 16, 32, 128, 244, 245, 245, 246, 247]);
+        let mut block = vec![0x00, 0x02];
+        for _ in 0..253 - n {
+            block.push(r.byte() | 1);
+        }
+        block.push(0x00);
+        block.extend(r.bytes(n));
+        if r.percent(25) {
+            match r.below(4) {
+                0 => block[0] = 0x01,
+                1 => block[1] = r.pick(&[0x00, 0x01, 0x03]),
+                2 => block[r.between(2, 10)] = 0x00,
+                _ => block.iter_mut().for_each(|b| *b |= 2),
+            }
+        }
+        debug_assert!(block.len() == padding::BLOCK);
+        block
+    }
+
+    fn noise(&mut self) {
+        let r = &mut self.random;
+        let apdu = match r.below(5) {
+            0 => vec![0xFF; r.pick(&[0, 1, 3, 4, 5, 6, 260, 261, 262])],
+            1 => {
+                let n = r.below(12);
+                r.bytes(n)
+            }
+            2 => {
+                let ins = r.pick(&[0xA4, 0xB2, 0xB0, 0xC0, 0x20, 0x24, 0x2C, 0x22, 0x88, 0x2A]);
+                let n = r.pick(&[0, 1, 1, 2, 3]);
+                let mut apdu = vec![r.pick(&[0x00, 0x00, 0x10]), ins, r.byte(), r.byte()];
+                apdu.extend(r.bytes(n));
+                apdu
+            }
+            3 => {
+                let n = r.pick(&[1, 2, 254, 255]);
+                let mut apdu = vec![0x00, r.byte(), 0x00, 0x00, n as u8];
+                apdu.extend(r.bytes(n + 1));
+                apdu
+            }
+            _ => vec![0x10, 0x20, 0x00, 0x01],
+        };
+        self.call(b'C', &apdu);
+    }
+
+    fn scenario(&mut self) {
+        match self.random.below(100) {
+            0..=2 => self.malformed(),
+            3..=4 => self.line(b"P".to_vec()),
+            5..=8 => self.noise(),
+            9..=18 => self.select(),
+            19..=26 => self.browse(),
+            27..=39 => self.read(),
+            40..=43 => self.get_responses(),
+            44..=51 => {
+                let code = self.any_code();
+                self.verify(code, 70);
+            }
+            52..=56 => self.change(),
+            57..=60 => {
+                let pin = self.random.pick(&[PIN1, PIN2]);
+                self.unblock(pin);
+            }
+            61..=66 => self.block_and_unblock(),
+            67..=71 => self.environment(),
+            72..=77 => self.choose_key(),
+            78..=84 => self.authenticate(),
+            85..=91 => self.sign(),
+            92..=98 => self.decipher(),
+            _ => {
+                let n = self.random.below(300);
+                let result = self.random.bytes(n);
+                self.call(b'D', &result);
+            }
+        }
+        if self.session.card.job.is_some() && self.random.percent(70) {
+            self.deliver();
+        }
+    }
+}
+
+impl Iterator for Generator {
+    type Item = Vec<u8>;
+
+    /// Lines without their line feed; there is always a next one.
+    fn next(&mut self) -> Option<Vec<u8>> {
+        while self.pending.is_empty() {
+            self.scenario();
+        }
+        self.pending.pop_front()
+    }
+}

@@ -1,0 +1,47 @@
+//! Over a few fixed seeds the generator reaches every answer a transcript can give.
+
+use second::generate::{Generator, Random};
+use second::transcript::Transcript;
+use second::{images, load};
+use std::collections::BTreeSet;
+
+#[test]
+fn every_answer_occurs() {
+    let mut seen = BTreeSet::new();
+    for seed in 1..=4 {
+        let mut session = Transcript::sample();
+        for line in Generator::new(seed, 4000).take(4000) {
+            assert!(!line.contains(&b'\n'));
+            let output = session.line(&line);
+            assert!(session.card.is_good());
+            let word = match output.as_bytes()[0] {
+                b'R' => output[output.len() - 4..].to_string(),
+                b'J' => output[..2].to_string(),
+                _ => output,
+            };
+            if word.starts_with("61") && word != "6100" {
+                seen.insert("61xx".to_string());
+            }
+            seen.insert(word);
+        }
+    }
+    let named = "6700 6E00 6D00 6884 6A86 6A82 6986 6981 6A83 6B00 6985 6983 63C0 63C1 63C2 6A80 6982 6A88 \
+                 6400 61xx 6100 9000 H4 H5 J1 J2 J3 P ?";
+    for word in named.split_whitespace() {
+        assert!(seen.contains(word), "{word} in {seen:?}");
+    }
+}
+
+#[test]
+fn every_load_number_occurs() {
+    let mut random = Random(5);
+    let mut counts = [0; 28];
+    for _ in 0..3000 {
+        let (card, number) = load(&images::image(&mut random));
+        assert_eq!(card.is_good(), number == 0);
+        counts[number as usize] += 1;
+    }
+    for number in [0, 21, 22, 23, 24, 25, 26, 27] {
+        assert!(counts[number] > 10, "{number}: {counts:?}");
+    }
+}
