@@ -4,7 +4,7 @@ use mathlib.Core.Bool.{Bool, true, _&&_}
 use mathlib.Core.List.{List}
 use lib.ListN.{take}
 use Rattle.octets.specs.Octets.{Bytes, filled}
-use Rattle.octets.proofs.Image.{filled-full}
+use Rattle.octets.proofs.Chains.{filled-exactly}
 use Rattle.rules.specs.declared.Fault.the-variants.{EndsEarly, BadReference}
 use Rattle.rules.specs.Keys.{usable, activeKey}
 use Rattle.rules.specs.Image.{Reader, continued, pure, require, anyBytes, count}
@@ -29,5 +29,5 @@ module _ (image : Bytes) (keys : List Bool) (c c₁ c₂ : Cursor) (d : Bytes) w
   references-read e₁ e₂ =
       after image c₂ _ (require (activeUsable keys (kept d)) BadReference) _ (λ _. pure (kept d)) (judged-law image c₂ (activeUsable keys (kept d)) BadReference)
       ∙ after image c₁ c₂ (anyBytes 21) d (λ d. thenTest (kept d)) e₂
-      ∙ same-from image c₁ (λ b. same-bytes (λ x. true) EndsEarly 21 b (λ d b l. ap (λ (references : Bytes). thenTest references b) (filled-full 21 d l)))
+      ∙ same-from image c₁ (λ b. same-bytes (λ x. true) EndsEarly 21 b (λ d b l. ap (λ (references : Bytes). thenTest references b) (filled-exactly 21 d l)))
       ∙ after image c c₁ (count 21) 21 (λ _ b. continued (anyBytes 21 b) thenTest) e₁

@@ -8,4 +8,3 @@ pub mod Words
 pub mod Parts
 pub mod Cutting
 pub mod Chains
-pub mod Image

@@ -32,14 +32,6 @@ pub and-right : (s t : Bool) → (s && t) ≡ true → t ≡ true
 and-right true t e = e
 and-right false t e = absurd (false≢true e)
 
-pub or-left : (s t : Bool) → (s || t) ≡ false → s ≡ false
-or-left true t e = e
-or-left false t e = refl
-
-pub or-right : (s t : Bool) → (s || t) ≡ false → t ≡ false
-or-right true t e = absurd (false≢true (sym e))
-or-right false t e = e
-
 -- One of two tests.
 pub or-cases : (P : Type 0) (s t : Bool) → (s || t) ≡ true → (s ≡ true → P) → (t ≡ true → P) → P
 or-cases P true t e h g = h refl

@@ -70,11 +70,6 @@ module _ (k : ℕ) (v : Code) (g : goodCode k v ≡ true) where
   pub code-length : length (value v) ≡ v .len
   code-length = room-taken most (v .digits) (v .len) code-room
 
-  -- a verified code has three tries
-  pub code-verified : v .verified ≡ true → v .tries ≡ 3
-  unfolding goodCode
-  code-verified e = eqb-true (v .tries) fullTries (rw e at (nth code-tests 4 g))
-
   -- the same value with other tries and another mark
   pub marked-good : (t : ℕ) (m : Bool) → t ≤ 3 → (not m || eqb t fullTries) ≡ true → goodCode k (marked v t m) ≡ true
   unfolding goodCode
