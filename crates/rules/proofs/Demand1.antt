@@ -14,7 +14,7 @@ use Rattle.rules.specs.declared.Reply.the-variants.{Refused, Response, H
 use Rattle.rules.specs.declared.Refusal.{Refusal}
 use Rattle.rules.specs.declared.Refusal.the-variants.{BadState}
 use Rattle.rules.specs.State.{good}
-use Rattle.rules.specs.Edge.{refused, responseIn, command, delivery, powerReset}
+use Rattle.rules.specs.Edge.{refused, replyValues, responseIn, command, delivery, powerReset}
 use Rattle.rules.specs.Counting.{Call, Command, Delivery, PowerReset, step, replyStatus}
 use Rattle.rules.specs.Demands.{bufferOf, refusalStatus, Demand1}
 use Rattle.rules.proofs.Keeping.{Gives, refuses, responds, handsOut, resets, call-gives}
@@ -91,7 +91,7 @@ demand-1 c x bytes =
     let given : Gives c (bufferOf x) (step c x) = call-gives c x bytes in
     record {
       edge = edge-of given;
-      notGood = not-good c x;
+      notGood = λ g. (not-good c x g, ap replyValues (not-good c x g));
       response = response-of given;
       refusal = refusal-of given;
       job = job-of given;

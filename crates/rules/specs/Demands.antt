@@ -2,7 +2,7 @@
 use Prim.Native.Nat.{ℕ, _+_, _*_, _/_, _≤_, _<_}
 use mathlib.Core.Path.{_≡_}
 use mathlib.Core.Bool.{Bool, true, false, not, _&&_}
-use mathlib.Core.List.{List, []}
+use mathlib.Core.List.{List, [], _∷_}
 use lib.ListN.{length, drop}
 use lib.Dec.{eqb}
 use Rattle.octets.specs.Octets.{Bytes}
@@ -16,7 +16,7 @@ use Rattle.rules.specs.declared.Reply.the-variants.{Refused, Response, H
 use Rattle.rules.specs.Codes.{PUK, codeOf}
 use Rattle.rules.specs.Session.{newSession}
 use Rattle.rules.specs.State.{good}
-use Rattle.rules.specs.Edge.{refused}
+use Rattle.rules.specs.Edge.{refused, replyValues}
 use Rattle.rules.specs.Image.{load, zeroCard, faultNumber}
 use Rattle.rules.specs.Counting.{Call, Command, Delivery, PowerReset, step, next, exchange, trace, statusWord, wrongAnswers, restorations, unblockings, signatures, pin2Presentations, ofBytes, allOfBytes, triesAtLoad}
 
@@ -35,7 +35,7 @@ pub record Defined (c : Card) (x : Call) : Type 0 where
   -- a refusal by the edge changes neither the state nor one byte of the buffer
   pub edge : (r : Refusal) → step c x .0 .reply ≡ Refused r → step c x ≡ refused c (bufferOf x) r
   -- every call on a state that is not good is refused as 1
-  pub notGood : good c ≡ false → step c x .0 .reply ≡ Refused BadState
+  pub notGood : good c ≡ false → (step c x .0 .reply ≡ Refused BadState) × (replyValues (step c x .0 .reply) ≡ 1 ∷ [])
   -- a response is 2 to 258 bytes, and nothing past them changes
   pub response : (n : ℕ) → step c x .0 .reply ≡ Response n → (2 ≤ n) × (n ≤ 258) × (drop n (step c x .1) ≡ drop n (bufferOf x))
   -- a refusal by status word writes that word and nothing else
