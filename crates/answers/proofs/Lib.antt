@@ -1,2 +1,3 @@
 pub mod Certificates
 pub mod Outputs
+pub mod Reach

@@ -1,5 +1,6 @@
 // What a command or a delivery answers, and the one function that writes it to a caller's buffer.
 use rules::Card;
+use rules::Header;
 use rules::JobKind;
 use rules::Outcome;
 use rules::Refusal;
@@ -12,6 +13,7 @@ ghost use Rattle.rules.specs.Files.{certificateOf};
 ghost use Rattle.rules.specs.Keys.{kindNumber};
 ghost use Rattle.rules.specs.Answers.{response, job};
 ghost use Rattle.answers.specs.Outputs.{kindOf, outputOf, writtenOr};
+ghost use Rattle.answers.specs.Reach.{leInReach};
 
 // The n bytes from an offset on, or those of them that there are, of the certificate that a certificate file shows.
 pub fn certificate_part<'a>(
@@ -38,11 +40,23 @@ pub struct Output {
     pub len: usize,
 }
 
+// The header with no more than 256 as Le.
+pub fn in_reach(h: Header) -> Header
+    ensures { λ r. ⌜ r ≡ leInReach h ⌝ }
+{
+    if h.le <= 256 {
+        return h;
+    }
+    let mut next = h;
+    next.le = 256;
+    next
+}
+
 // A status word alone.
 pub fn status(sw: u16) -> Output
     ensures { λ r. ⌜ outputOf r ≡ response [] sw ⌝ }
 {
-    let bytes = octets::blank_256();
+    let bytes = arrays::blank_256();
     Output {
         kind: 0,
         key: 0,
@@ -56,7 +70,7 @@ pub fn status(sw: u16) -> Output
 pub fn with_data(d: &[u8], sw: u16) -> Output
     ensures { λ r. ⌜ outputOf r ≡ response (take 256 (now (d .entry))) sw ⌝ }
 {
-    let bytes = octets::filled_256(d);
+    let bytes = arrays::filled_256(d);
     let len = octets::part(d, 0, 256).len();
     Output {
         kind: 0,

@@ -1,11 +1,11 @@
 -- The length forms of a command, one law for each.
 use mathlib.Core.Path.{_≡_}
 use mathlib.Core.Bool.{and-false}
-use Prim.Native.Nat.{ℕ, _+_, _-_, _≤_, _<_}
+use Prim.Native.Nat.{_+_, _-_, _≤_, _<_}
 use mathlib.Core.Logic.{_≢_}
 use native.Mathlib.Omega.{arith}
 use lib.ListN.{length}
-use borrow.Author.Tests.{eq-eqb, ne-eqb, le-leb, lt-leb}
+use borrow.Author.Tests.{eq-eqb, ne-eqb, le-leb}
 use Rattle.octets.specs.Octets.{Bytes, byteAt}
 use Rattle.rules.specs.declared.Parsed.the-variants.{Form, Malformed}
 use Rattle.rules.specs.Apdu.{leOf, header, lcByte, parse}

@@ -1,9 +1,8 @@
 -- How a verdict on one code becomes the judgement on the card, and what follows a judgement.
-use mathlib.Core.Path.{_≡_, refl, sym, ap, _∙_}
+use mathlib.Core.Path.{_≡_, sym, ap, _∙_}
 use mathlib.Core.Bool.{Bool, true, false, not, cond}
 use Prim.Native.Nat.{ℕ, _+_}
 use lib.Dec.{eqb}
-use lib.ListN.{length}
 use lib.Seq.{take-all}
 use borrow.Author.Tests.{not-false, not-true}
 use Rattle.octets.specs.Octets.{Bytes, same}

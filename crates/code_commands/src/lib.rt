@@ -4,7 +4,7 @@ use rules::Card;
 use rules::Code;
 use rules::Header;
 ghost use mathlib.Core.Path.{_≡_};
-ghost use Prim.Native.Nat.{_+_, _<_, _≤_};
+ghost use Prim.Native.Nat.{_+_};
 ghost use mathlib.Core.Bool.{false};
 ghost use lib.ListN.{take, drop};
 ghost use Rattle.rules.specs.Codes.{marked};
@@ -34,7 +34,6 @@ fn wrong_status(left: u8) -> u16
 
 // A value presented for the code of a number.
 fn judge(card: Card, number: usize, presented: &[u8]) -> Judgement
-    requires { ⌜ number < 3 ⌝ }
     ensures { λ r. ⌜ r ≡ judgementOf card number (now (presented .entry)) ⌝ }
 {
     let judged = codes::present(state::code_of(card, number), presented);
@@ -72,7 +71,6 @@ fn follow(judged: Judgement) -> Stepped
 
 // 20 VERIFY.
 pub fn verify(card: Card, h: Header, presented: &[u8]) -> Stepped
-    requires { ⌜ h .p2 ≤ 2 ⌝ }
     ensures { λ r. ⌜ stepOf r ≡ verify card h (now (presented .entry)) ⌝ }
 {
     let number = octets::wide(h.p2);
@@ -106,7 +104,6 @@ fn new_value(code: Code, values: &[u8]) -> &[u8]
 
 // 24 CHANGE: the old value, as long as the stored one, then the new value.
 pub fn change(card: Card, h: Header, values: &[u8]) -> Stepped
-    requires { ⌜ h .p2 ≤ 2 ⌝ }
     ensures { λ r. ⌜ stepOf r ≡ change card h (now (values .entry)) ⌝ }
 {
     let number = octets::wide(h.p2);
@@ -141,7 +138,6 @@ fn renewed(code: Code) -> Code
 
 // 2C with P1 03: the PUK was verified before.
 fn unblock_by_verified_puk(card: Card, pin: usize) -> Stepped
-    requires { ⌜ pin < 3 ⌝ }
     ensures { λ r. ⌜ stepOf r ≡ unblockByVerifiedPuk card pin ⌝ }
 {
     let puk = state::code_of(card, Code::PUK);
@@ -160,7 +156,6 @@ fn unblock_by_verified_puk(card: Card, pin: usize) -> Stepped
 
 // 2C with P1 00: the PUK, then the new PIN.
 fn unblock_by_presented_puk(card: Card, pin: usize, values: &[u8]) -> Stepped
-    requires { ⌜ pin < 3 ⌝ }
     ensures { λ r. ⌜ stepOf r ≡ unblockByPresentedPuk card pin (now (values .entry)) ⌝ }
 {
     let puk = state::code_of(card, Code::PUK);
@@ -182,7 +177,6 @@ fn unblock_by_presented_puk(card: Card, pin: usize, values: &[u8]) -> Stepped
 
 // 2C RESET RETRY.
 pub fn reset_retry(card: Card, h: Header, values: &[u8]) -> Stepped
-    requires { ⌜ h .p2 ≤ 2 ⌝ }
     ensures { λ r. ⌜ stepOf r ≡ resetRetry card h (now (values .entry)) ⌝ }
 {
     let pin = octets::wide(h.p2);

@@ -1,12 +1,11 @@
 -- What presenting a value gives, for one code by itself: the code afterwards, and how it was judged.
-use Prim.Native.Nat.{ℕ, _-_}
-use mathlib.Core.Bool.{Bool, true, false, cond}
+use Prim.Native.Nat.{_-_}
+use mathlib.Core.Bool.{true, false, cond}
 use lib.Dec.{eqb}
 use Rattle.octets.specs.Octets.{Bytes, same}
 use Rattle.rules.specs.declared.Code.{Code}
 use Rattle.rules.specs.Codes.{fullTries, value, marked}
 use Rattle.codes.specs.declared.Presented.{Presented}
-use Rattle.codes.specs.declared.Verdict.{Verdict}
 use Rattle.codes.specs.declared.Verdict.the-variants.{NoTries, Wrong, Right}
 
 -- No tries left: nothing changes. Right: three tries and the mark on. Wrong, by value or by length: one try less and the mark off.

@@ -33,7 +33,7 @@ pub fn storing(value: &[u8], tries: u8, verified: bool) -> Code
 {
     let kept = octets::part(value, 0, Code::MOST);
     Code {
-        digits: octets::filled_12(kept),
+        digits: arrays::filled_12(kept),
         len: kept.len(),
         tries: tries,
         verified: verified,

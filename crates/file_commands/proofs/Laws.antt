@@ -1,11 +1,15 @@
 -- SELECT, READ RECORD, READ BINARY and GET RESPONSE: a law for each of their answers.
-use mathlib.Core.Path.{_≡_}
+use mathlib.Core.Path.{_≡_, refl}
 use mathlib.Core.Logic.{_≢_}
-use mathlib.Core.Bool.{Bool, true, false, not, _&&_}
+use mathlib.Core.Bool.{Bool, true, false, not, cond, _&&_}
 use Prim.Native.Nat.{ℕ, _-_, _≤_, _<_}
-use lib.Dec.{eqb}
-use lib.ListN.{length, take, drop}
-use borrow.Author.Tests.{eq-eqb, ne-eqb, lt-ltb, le-ltb, le-leb, lt-leb}
+use lib.Dec.{eqb, leb}
+use lib.Seq.{take-take}
+use native.Mathlib.Omega.{arith}
+use lib.ListN.{length, take, drop, length-drop}
+use borrow.Author.Tests.{eq-eqb, ne-eqb, lt-ltb, le-ltb, le-leb, lt-leb, leb-true, leb-false}
+use Rattle.octets.proofs.Tests.{split}
+use Rattle.octets.proofs.Cutting.{uncut-first}
 use Rattle.octets.specs.Octets.{Bytes, byteAt, word, member}
 use Rattle.rules.specs.declared.Card.{Card}
 use Rattle.rules.specs.declared.Session.{Session}
@@ -45,7 +49,15 @@ module _ (s : Session) (h : Header) (d : Bytes) where
       unfolding select
       nothing-chosen e = simp (ne-eqb (h .p1) 0x00 below-root, ← named, no-directory, ← listed, e)
 
--- The records of 0016h.
+-- The records of 0016h. Neither is cut at 256 bytes.
+pub puk-uncut : (t : ℕ) → take 256 (pukRecord t) ≡ pukRecord t
+unfolding pukRecord
+puk-uncut t = refl
+
+pub pin-uncut : (t : ℕ) → take 256 (pinRecord t) ≡ pinRecord t
+unfolding pinRecord
+pin-uncut t = refl
+
 module _ (c : Card) (n : ℕ) where
   pub puk-shown : n ≡ 3 → pukRecord (codeOf c PUK .tries) ≡ counterRecord c n
   unfolding counterRecord
@@ -102,6 +114,12 @@ module _ (c : Card) (s : Session) (h : Header) where
       unfolding readRecord
       record-given e = simp (ne-eqb (current s) noFile some, by-record, le-ltb (recordCount (current s)) (h .p1) e)
 
+-- As many bytes as Le says, and at most 256.
+pub take-in-reach : (le : ℕ) (d : Bytes) → take 256 (take le d) ≡ take (cond (leb le 256) le 256) d
+take-in-reach le d = split (λ n. take 256 (take le d) ≡ take n d) (leb le 256)
+    (λ e. uncut-first 256 le d (leb-true le 256 e))
+    (λ e. take-take 256 le d (omega (arith, leb-false le 256 e)))
+
 -- READ BINARY of one of two certificates.
 module _ (s : Session) (h : Header) (authentication signature : Bytes) where
   abbrev shown : Bytes
@@ -138,6 +156,6 @@ module _ (s : Session) (h : Header) (d : Bytes) (held : d ≡ heldBytes s) where
     all-given e = simp (← held, ne-eqb (length d) 0 some, le-leb (length d) (h .le) e)
 
     pub first-given : h .le < length d
-        → record { session = withHeld s (drop (h .le) d); answer = response (take (h .le) d) (moreBytes (length d - h .le)) } ≡ getResponse s h
+        → record { session = withHeld s (drop (h .le) d); answer = response (take (h .le) d) (moreBytes (length (drop (h .le) d))) } ≡ getResponse s h
     unfolding getResponse
-    first-given e = simp (← held, ne-eqb (length d) 0 some, lt-leb (length d) (h .le) e)
+    first-given e = simp (← held, length-drop (h .le) d, ne-eqb (length d) 0 some, lt-leb (length d) (h .le) e)

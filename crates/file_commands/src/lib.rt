@@ -6,16 +6,14 @@ use rules::Record;
 use rules::Session;
 use session_steps::SessionOutput;
 ghost use mathlib.Core.Path.{_≡_};
-ghost use mathlib.Core.Bool.{true};
-ghost use Prim.Native.Nat.{_≤_};
+ghost use Prim.Native.Nat.{_≤_, _-_};
 ghost use lib.ListN.{length, take};
 ghost use Rattle.octets.specs.Octets.{byteAt, word};
-ghost use Rattle.rules.specs.Session.{heldBytes};
 ghost use Rattle.rules.specs.Files.{certificateFile, certificateOf, pukRecord, pinRecord, counterRecord, personalRecord, recordCount, recordOf};
-ghost use Rattle.rules.specs.State.{good};
 ghost use Rattle.rules.specs.Answers.{give};
 ghost use Rattle.rules.specs.FileCommands.{select, readRecord, readBinary, getResponse};
 ghost use Rattle.session_steps.specs.Steps.{sessionStepOf};
+ghost use Rattle.answers.specs.Reach.{leInReach};
 
 // The two directories, and no current file.
 const ROOT: u16 = 0x3F00;
@@ -87,10 +85,9 @@ fn pin_record(tries: u8) -> [u8; 10]
     [0x80, 0x01, 0x03, 0x90, 0x01, tries, 0x83, 0x02, 0x00, 0x00]
 }
 
-// Record n of 0016h, given by Le. As `session_steps::give` does, these show at most 256 bytes.
+// Record n of 0016h, given by Le.
 fn give_counter(card: Card, s: Session, le: usize, n: u8) -> SessionOutput
-    requires { ⌜ n ≤ 3 ⌝ }
-    ensures { λ r. ⌜ sessionStepOf r ≡ give s le (take 256 (counterRecord card n)) ⌝ }
+    ensures { λ r. ⌜ sessionStepOf r ≡ give s le (counterRecord card n) ⌝ }
 {
     if n == 3 {
         let puk = state::code_of(card, Code::PUK);
@@ -104,27 +101,37 @@ fn give_counter(card: Card, s: Session, le: usize, n: u8) -> SessionOutput
 
 // What a personal record holds, given by Le.
 fn give_contents(stored: Record, s: Session, le: usize) -> SessionOutput
-    ensures { λ r. ⌜ sessionStepOf r ≡ give s le (take 256 (take (stored .len) (stored .bytes))) ⌝ }
+    ensures { λ r. ⌜ sessionStepOf r ≡ give s le (take (stored .len) (stored .bytes)) ⌝ }
 {
     let bytes = stored.bytes;
     let len = stored.len;
     session_steps::give(s, le, octets::part(&bytes, 0, len))
 }
 
+// The place of record n among the records; record 1 is the first.
+fn place(n: u8) -> usize
+    ensures { λ r. ⌜ r ≡ n - 1 ⌝ }
+{
+    if n == 0 {
+        return 0;
+    }
+    octets::wide(n) - 1
+}
+
 // Record n of 5044h.
 fn give_personal(card: Card, s: Session, le: usize, n: u8) -> SessionOutput
-    requires { ⌜ (1 ≤ n) × (n ≤ 16) ⌝ }
-    ensures { λ r. ⌜ sessionStepOf r ≡ give s le (take 256 (personalRecord card n)) ⌝ }
+    requires { ⌜ n ≤ 16 ⌝ }
+    ensures { λ r. ⌜ sessionStepOf r ≡ give s le (personalRecord card n) ⌝ }
 {
-    let at = octets::wide(n) - 1;
+    let at = place(n);
     let stored = card.personal[at];
     give_contents(stored, s, le)
 }
 
 // Record n of a record file.
 fn give_record(card: Card, s: Session, le: usize, file: u16, n: u8) -> SessionOutput
-    requires { ⌜ (1 ≤ n) × (n ≤ recordCount file) ⌝ }
-    ensures { λ r. ⌜ sessionStepOf r ≡ give s le (take 256 (recordOf card file n)) ⌝ }
+    requires { ⌜ n ≤ recordCount file ⌝ }
+    ensures { λ r. ⌜ sessionStepOf r ≡ give s le (recordOf card file n) ⌝ }
 {
     if file == 0x0016 {
         return give_counter(card, s, le, n);
@@ -136,9 +143,8 @@ fn give_record(card: Card, s: Session, le: usize, file: u16, n: u8) -> SessionOu
     give_personal(card, s, le, n)
 }
 
-// B2 READ RECORD. A record number of 0 was refused before.
+// B2 READ RECORD.
 pub fn read_record(card: Card, s: Session, h: Header) -> SessionOutput
-    requires { ⌜ (good card ≡ true) × (1 ≤ h .p1) ⌝ }
     ensures { λ r. ⌜ sessionStepOf r ≡ readRecord card s h ⌝ }
 {
     let selection = s.selection;
@@ -165,15 +171,14 @@ fn certificate_length(authentication: &[u8], signature: &[u8], file: u16) -> usi
     signature.len()
 }
 
-// B0 READ BINARY.
+// B0 READ BINARY, of at most 256 bytes.
 pub fn read_binary<'a>(
     s: Session,
     h: Header,
     authentication: &'a [u8],
     signature: &'a [u8],
 ) -> SessionOutput
-    requires { ⌜ h .le ≤ 256 ⌝ }
-    ensures { λ r. ⌜ sessionStepOf r ≡ readBinary s h (now (authentication .entry)) (now (signature .entry)) ⌝ }
+    ensures { λ r. ⌜ sessionStepOf r ≡ readBinary s (leInReach h) (now (authentication .entry)) (now (signature .entry)) ⌝ }
 {
     let selection = s.selection;
     let file = selection.file;
@@ -193,7 +198,6 @@ pub fn read_binary<'a>(
 
 // C0 GET RESPONSE.
 pub fn get_response(s: Session, h: Header) -> SessionOutput
-    requires { ⌜ length (heldBytes s) ≤ 256 ⌝ }
     ensures { λ r. ⌜ sessionStepOf r ≡ getResponse s h ⌝ }
 {
     let held = s.held;
@@ -208,7 +212,8 @@ pub fn get_response(s: Session, h: Header) -> SessionOutput
     if n <= le {
         return session_steps::session_data(state::drop_held(s), all, 0x9000);
     }
-    let next = state::with_held(s, octets::part(all, le, n));
-    let more = session_steps::more_bytes(n - le);
+    let rest = octets::part(all, le, n);
+    let next = state::with_held(s, rest);
+    let more = session_steps::more_bytes(rest);
     session_steps::session_data(next, octets::part(all, 0, le), more)
 }

@@ -133,12 +133,15 @@ fn good_session(keys: [bool; 4], s: Session) -> bool
 pub fn good(card: Card) -> bool
     ensures { λ r. ⌜ r ≡ good card ⌝ }
 {
+    let puk = codes::good_code(Code::PUK, state::code_of(card, Code::PUK));
+    let pin1 = codes::good_code(Code::PIN1, state::code_of(card, Code::PIN1));
+    let pin2 = codes::good_code(Code::PIN2, state::code_of(card, Code::PIN2));
     let keys = card.keys;
-    let puk = codes::good_code(Code::PUK, card.codes[0]);
-    let pin1 = codes::good_code(Code::PIN1, card.codes[1]);
-    let pin2 = codes::good_code(Code::PIN2, card.codes[2]);
-    let references = good_references(keys, card.references);
-    let records = good_records(card.personal);
-    let session = good_session(keys, card.session);
+    let reference_record = card.references;
+    let references = good_references(keys, reference_record);
+    let personal = card.personal;
+    let records = good_records(personal);
+    let current = card.session;
+    let session = good_session(keys, current);
     puk & (pin1 & (pin2 & (references & (records & session))))
 }

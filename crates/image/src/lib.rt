@@ -15,7 +15,8 @@ ghost use mathlib.Core.Path.{_≡_};
 ghost use mathlib.Core.Bool.{true, _&&_};
 ghost use lib.Dec.{leb};
 ghost use lib.ListN.{take, drop, replicate};
-ghost use Rattle.rules.specs.Image.{byteIf, anyByte, bytesIf, anyBytes, count, readCode, readPersonal, readRecords, end, zeroCode, zeroRecord, zeroCard, load};
+ghost use Rattle.rules.specs.Codes.{zeroCode};
+ghost use Rattle.rules.specs.Image.{byteIf, anyByte, bytesIf, anyBytes, count, readCode, readPersonal, readRecords, end, zeroRecord, zeroCard, load};
 ghost use Rattle.image.specs.Positions.{nextAt, from, upTo, positionOf, judged};
 ghost use Rattle.image.specs.Sections.{codeSection, keyAfter, withMark, markedKeys, keySection, referenceSection, personalSection, cardOf};
 
@@ -313,7 +314,7 @@ fn reference_section(image: &[u8], cursor: Cursor, keys: [bool; 4]) -> ReadRefer
 {
     let first = count(image, cursor, 21);
     let last = any_bytes(image, first, 21);
-    let references = octets::filled_21(octets::part(image, position(first), 21));
+    let references = arrays::filled_21(octets::part(image, position(first), 21));
     let authentication = keys::usable(keys, 1, keys::active_key(references, 1));
     let signature = keys::usable(keys, 2, keys::active_key(references, 2));
     let after = judged(last, authentication & signature, Fault::BadReference);
@@ -333,7 +334,7 @@ fn read_record(image: &[u8], cursor: Cursor) -> ReadRecord
     let after = any_bytes(image, first, n);
     let bytes = octets::part(image, position(first), n);
     let personal = Record {
-        bytes: octets::filled_64(bytes),
+        bytes: arrays::filled_64(bytes),
         len: bytes.len(),
     };
     ReadRecord {
@@ -347,7 +348,7 @@ fn zero_records() -> [Record; 16]
     ensures { λ r. ⌜ r ≡ replicate 16 zeroRecord ⌝ }
 {
     let empty = Record {
-        bytes: octets::blank_64(),
+        bytes: arrays::blank_64(),
         len: 0,
     };
     [empty; 16]
@@ -385,12 +386,7 @@ fn personal_section(image: &[u8], cursor: Cursor) -> ReadRecords
 fn zero_codes() -> [Code; 3]
     ensures { λ r. ⌜ r ≡ replicate 3 zeroCode ⌝ }
 {
-    let code = Code {
-        digits: octets::blank_12(),
-        len: 0,
-        tries: 0,
-        verified: false,
-    };
+    let code = state::zero_code();
     [code; 3]
 }
 
@@ -406,11 +402,11 @@ fn zero_session() -> Session
         choices: [0u16; 3],
     };
     let held = Held {
-        bytes: octets::blank_256(),
+        bytes: arrays::blank_256(),
         len: 0,
     };
     let chain = Chain {
-        bytes: octets::blank_257(),
+        bytes: arrays::blank_257(),
         len: 0,
     };
     let job = Job {
@@ -432,7 +428,7 @@ fn zero_card() -> Card
     ensures { λ r. ⌜ r ≡ zeroCard ⌝ }
 {
     let codes = zero_codes();
-    let references = octets::blank_21();
+    let references = arrays::blank_21();
     let personal = zero_records();
     let session = zero_session();
     Card {

@@ -18,28 +18,23 @@ use Rattle.rules.specs.Codes.{PIN1, codeOf}
 use Rattle.rules.specs.Keys.{keyFor}
 use Rattle.rules.specs.Session.{chainBytes, withChain, dropChain}
 use Rattle.rules.specs.Answers.{sessionStatus, handOut}
-use Rattle.rules.specs.KeyCommands.{decipher}
-use Rattle.key_commands.specs.Steps.{decipherWhole}
+use Rattle.rules.specs.KeyCommands.{decipherWhole, decipher}
 
 -- A whole cryptogram.
 module _ (c : Card) (s : Session) (h : Header) (x : Bytes) {emptied : Session} (m : emptied ≡ dropChain s) where
   pub wrong-start : byteAt x 0 ≢ 0x00 → sessionStatus emptied 0x6A80 ≡ decipherWhole c s h x
-  unfolding decipherWhole
   wrong-start n = simp (m, ne-eqb (byteAt x 0) 0 n)
 
   module _ (z : byteAt x 0 ≡ 0x00) where
     pub decipher-elsewhere : s .environment .number ≢ 6 → sessionStatus emptied 0x6985 ≡ decipherWhole c s h x
-    unfolding decipherWhole
     decipher-elsewhere n = simp (m, eq-eqb (byteAt x 0) 0 z, ne-eqb (s .environment .number) 6 n)
 
     module _ (e : s .environment .number ≡ 6) {pin : Code} (p : pin ≡ codeOf c PIN1) where
       pub decipher-closed : not (pin .verified) ≡ true → sessionStatus emptied 0x6982 ≡ decipherWhole c s h x
-      unfolding decipherWhole
       decipher-closed v = simp (m, eq-eqb (byteAt x 0) 0 z, eq-eqb (s .environment .number) 6 e, ← p, v)
 
       pub decipher-job : not (pin .verified) ≡ false → {key : ℕ} → key ≡ keyFor c s 3 → {block : Bytes} → block ≡ drop 1 x
           → handOut emptied Decipher key (h .le) block ≡ decipherWhole c s h x
-      unfolding decipherWhole
       decipher-job v k b = simp (m, eq-eqb (byteAt x 0) 0 z, eq-eqb (s .environment .number) 6 e, ← p, v, k, b)
 
 -- The chain and the command's data, joined.
@@ -68,7 +63,7 @@ module _ (c : Card) (s : Session) (h : Header) (d : Bytes) {before : ℕ} (e : b
           simp (le-ltb 257 (length (chainBytes s ++ d)) short, ne-eqb (h .cla) 0x10 k, ne-eqb (length (chainBytes s ++ d)) 257 other)
 
       pub whole : before + length d ≡ 257 → decipherWhole c s h both ≡ decipher c s h d
-      unfolding decipher decipherWhole
+      unfolding decipher
       whole n =
           let all : length (chainBytes s ++ d) ≡ 257 = size ∙ n in
           simp (

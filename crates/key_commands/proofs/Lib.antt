@@ -1,4 +1,4 @@
-pub mod Environments
+pub mod Choices
 pub mod Jobs
 pub mod Ciphers
 pub mod Deliveries

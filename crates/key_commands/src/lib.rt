@@ -1,4 +1,4 @@
-// MANAGE SECURITY ENVIRONMENT, INTERNAL AUTHENTICATE, SIGN and DECIPHER, and the delivery of a job's result, as functions of values.
+// INTERNAL AUTHENTICATE, SIGN and DECIPHER, and the delivery of a job's result, as functions of values.
 use answers::Output;
 use rules::Card;
 use rules::Code;
@@ -16,73 +16,10 @@ ghost use Rattle.pkcs1.specs.Pkcs1.{padded};
 ghost use Rattle.rules.specs.Keys.{keyFor};
 ghost use Rattle.rules.specs.Session.{chainBytes, withSession};
 ghost use Rattle.rules.specs.Answers.{status};
-ghost use Rattle.rules.specs.KeyCommands.{setEnvironment, kindChosen, choosing, chooseKey, internalAuthenticate, sign, decipher};
+ghost use Rattle.rules.specs.KeyCommands.{internalAuthenticate, sign, decipherWhole, decipher};
 ghost use Rattle.rules.specs.Delivery.{deliver};
 ghost use Rattle.session_steps.specs.Steps.{sessionStepOf};
-ghost use Rattle.key_commands.specs.Steps.{namesKey, decipherWhole, cardStepOf};
-
-// 22 F3: environment 1 or 6, with all key choices at "active".
-pub fn set_environment(s: Session, h: Header) -> SessionOutput
-    ensures { λ r. ⌜ sessionStepOf r ≡ setEnvironment s h ⌝ }
-{
-    let number = h.p2;
-    if (number == 1) | (number == 6) {
-        let next = state::with_environment(s, number, [0u16; 3]);
-        return session_steps::session_status(next, 0x9000);
-    }
-    session_steps::session_status(s, 0x6A88)
-}
-
-// The kind of job that P2 of 22 41 names.
-fn kind_chosen(p2: u8) -> u8
-    ensures { λ r. ⌜ r ≡ kindChosen p2 ⌝ }
-{
-    match p2 {
-        0xA4 => 1,
-        0xB6 => 2,
-        _ => 3,
-    }
-}
-
-// The session with another key choice for the kind of job that P2 names; 0 is "active".
-fn choosing(s: Session, p2: u8, key: u16) -> Session
-    ensures { λ r. ⌜ r ≡ choosing s (kindChosen p2) key ⌝ }
-{
-    let environment = s.environment;
-    let mut choices = environment.choices;
-    let place = octets::wide(kind_chosen(p2)) - 1;
-    choices[place] = key;
-    state::with_environment(s, environment.number, choices)
-}
-
-// Whether the data of 22 41 has the shape that names a key: 83 03 80 and two bytes.
-fn names_key(d: &[u8]) -> bool
-    ensures { λ r. ⌜ r ≡ namesKey (now (d .entry)) ⌝ }
-{
-    let heading = octets::equal(octets::part(d, 0, 3), b"\x83\x03\x80");
-    (d.len() == 5) & heading
-}
-
-// 22 41: chooses the active key or a key by its reference, for the jobs of one kind.
-pub fn choose_key(card: Card, s: Session, h: Header, d: &[u8]) -> SessionOutput
-    ensures { λ r. ⌜ sessionStepOf r ≡ chooseKey card s h (now (d .entry)) ⌝ }
-{
-    if octets::equal(d, b"\x83\x00") {
-        return session_steps::session_status(choosing(s, h.p2, 0), 0x9000);
-    }
-    if !names_key(d) {
-        return session_steps::session_status(s, 0x6A80);
-    }
-    let key = octets::word(octets::byte_at(d, 3), octets::byte_at(d, 4));
-    if !keys::of_class(kind_chosen(h.p2), key) {
-        return session_steps::session_status(s, 0x6A80);
-    }
-    let keys = card.keys;
-    if !keys::present(keys, key) {
-        return session_steps::session_status(s, 0x6A88);
-    }
-    session_steps::session_status(choosing(s, h.p2, key), 0x9000)
-}
+ghost use Rattle.key_commands.specs.Steps.{cardStepOf};
 
 // The key that a job of a kind takes: the chosen one, or the active one of its class.
 fn key_for(card: Card, s: Session, kind: u8) -> u16
@@ -105,15 +42,14 @@ fn padded_block(d: &[u8]) -> [u8; 256]
     requires { ⌜ length (now d) ≤ 245 ⌝ }
     ensures { λ r. ⌜ r ≡ padded (now (d .entry)) ⌝ }
 {
-    let mut block = octets::blank_256();
+    let mut block = arrays::blank_256();
     pkcs1::shoalpennant_pad(d, &mut block);
     block
 }
 
-// 88 INTERNAL AUTHENTICATE.
+// 88 INTERNAL AUTHENTICATE, of at most 245 bytes.
 pub fn internal_authenticate(card: Card, s: Session, h: Header, d: &[u8]) -> SessionOutput
-    requires { ⌜ length (now d) ≤ 245 ⌝ }
-    ensures { λ r. ⌜ sessionStepOf r ≡ internalAuthenticate card s h (now (d .entry)) ⌝ }
+    ensures { λ r. ⌜ sessionStepOf r ≡ internalAuthenticate card s h (take 245 (now (d .entry))) ⌝ }
 {
     if s.environment.number != 1 {
         return session_steps::session_status(s, 0x6985);
@@ -123,7 +59,7 @@ pub fn internal_authenticate(card: Card, s: Session, h: Header, d: &[u8]) -> Ses
         return session_steps::session_status(s, 0x6982);
     }
     let key = key_for(card, s, 1);
-    let block = padded_block(d);
+    let block = padded_block(octets::part(d, 0, 245));
     session_steps::hand_out(s, JobKind::Authenticate, key, h.le, block)
 }
 
@@ -179,7 +115,7 @@ fn joined(s: Session, d: &[u8]) -> [u8; 257]
     let bytes = chain.bytes;
     let len = chain.len;
     let before = octets::part(&bytes, 0, len);
-    let mut both = octets::filled_257(before);
+    let mut both = arrays::filled_257(before);
     octets::copy_at(&mut both, before.len(), d);
     both
 }
@@ -198,7 +134,7 @@ fn chain_length(s: Session) -> usize
 fn last_256(cryptogram: [u8; 257]) -> [u8; 256]
     ensures { λ r. ⌜ r ≡ drop 1 cryptogram ⌝ }
 {
-    octets::filled_256(octets::part(&cryptogram, 1, 256))
+    arrays::filled_256(octets::part(&cryptogram, 1, 256))
 }
 
 // DECIPHER of a whole cryptogram: a byte 00 and 256 more.

@@ -1,8 +1,9 @@
 -- Laws of places in a string or a list, and of one of two tests.
-use mathlib.Core.Path.{_≡_, refl}
+use mathlib.Core.Path.{_≡_, refl, ap}
 use mathlib.Core.Bool.{Bool, true, _||_}
 use mathlib.Core.List.{List, [], _∷_}
-use Prim.Native.Nat.{ℕ, zero, suc, _<_}
+use Prim.Native.Nat.{ℕ, zero, suc, _≤_, _<_}
+use native.Mathlib.Nat.{not-suc-le-zero, le-of-suc-le-suc}
 use native.Mathlib.Omega.{arith}
 use lib.Dec.{ltb}
 use lib.ListN.{length, getD, set}
@@ -32,3 +33,15 @@ pub each-place : {A : Type 0} (P : ℕ → A → Type 0) (l : List A) (j : ℕ) 
 each-place P l j v d h p i q = either _ i j
     (λ e. rw e (rw (getD-set-same l j v d h) p))
     (λ n. rw (getD-set-other l j i v d n) q)
+
+-- Past its end nothing of a list is replaced.
+pub set-past : {A : Type 0} (l : List A) (j : ℕ) (v : A) → length l ≤ j → set l j v ≡ l
+set-past [] j v h = refl
+set-past (x ∷ xs) zero v h = absurd (not-suc-le-zero h)
+set-past (x ∷ xs) (suc j) v h = ap (λ l. x ∷ l) (set-past xs j v (le-of-suc-le-suc h))
+
+-- Inside a list it does not matter what stands past its end.
+pub place-inside : {A : Type 0} (l : List A) (j : ℕ) (d e : A) → j < length l → getD l j d ≡ getD l j e
+place-inside [] j d e h = absurd (not-suc-le-zero h)
+place-inside (x ∷ xs) zero d e h = refl
+place-inside (x ∷ xs) (suc j) d e h = place-inside xs j d e (le-of-suc-le-suc h)

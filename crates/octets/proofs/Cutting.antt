@@ -1,11 +1,11 @@
 -- Laws of strings that are too short to be cut.
-use mathlib.Core.Path.{_≡_, _∙_}
+use mathlib.Core.Path.{_≡_, sym, ap, _∙_}
 use Prim.Native.Nat.{ℕ, _≤_}
 use native.Mathlib.Omega.{arith}
 use lib.ListN.{length, take, drop, length-take, length-drop}
 use lib.Seq.{take-all}
 use Rattle.octets.specs.Octets.{Bytes}
-use Rattle.octets.proofs.Strings.{take-rest}
+use Rattle.octets.proofs.Strings.{take-rest, take-twice}
 
 -- The first n bytes are not cut at m, where n is at most m.
 pub uncut-first : (m n : ℕ) (b : Bytes) → n ≤ m → take m (take n b) ≡ take n b
@@ -18,3 +18,10 @@ module _ (m : ℕ) (b : Bytes) (h : length b ≤ m) (at : ℕ) where
 
   pub uncut-rest : take m (take (length b) (drop at b)) ≡ drop at b
   uncut-rest = rw (take-rest b at) (take-all m (drop at b) (omega (arith, length-drop at b)))
+
+-- What was cut to n bytes is not cut again, and is at most n bytes long.
+pub cut-again : (n : ℕ) (b d : Bytes) → b ≡ take n d → take n b ≡ b
+cut-again n b d e = ap (take n) e ∙ take-twice n d ∙ sym e
+
+pub cut-length : (n : ℕ) (b d : Bytes) → b ≡ take n d → length b ≤ n
+cut-length n b d e = omega (arith, ap length e, length-take n d)

@@ -1,6 +1,6 @@
 -- Laws of a string written into another, and of the part of a string from a place on.
 use mathlib.Core.Path.{_≡_, _∙_}
-use mathlib.Core.List.{[], _∷_, _++_, append-assoc, append-nil}
+use mathlib.Core.List.{[], _∷_, _++_, append-assoc}
 use Prim.Native.Nat.{ℕ, zero, suc, _+_, _-_, _<_, _≤_, min}
 use native.Mathlib.Nat.{sub-zero, zero-sub, suc-sub-suc, zero-add}
 use native.Mathlib.Numerals.{add-one}
@@ -28,19 +28,6 @@ module _ (dst : Bytes) (at : ℕ) (src : Bytes) where
       (λ h m. rw (e, m) (whole h))
       (λ h m. rw (e, m) (cut h))
 
-  -- The length stays.
-  pub length-pasted : length (pasted dst at src) ≡ length dst
-  unfolding pasted
-  length-pasted = simp (length-append, length-take, length-drop) (omega arith)
-
-  -- Past the end nothing is written.
-  pub pasted-past : length dst ≤ at → pasted dst at src ≡ dst
-  unfolding pasted
-  pasted-past h =
-      let none : length dst - at ≡ 0 = omega arith in
-      let past : length dst ≤ at + length src = omega arith in
-      rw (take-all at dst h, none, drop-of-length-le dst past, append-nil dst)
-
 -- A turn of the loop that writes one byte again and again.
 pub paste-byte : (dst : Bytes) (at n byte j : ℕ) → at + j < length dst → j < n
     → set (paste dst at (replicate n byte) j) (at + j) byte ≡ paste dst at (replicate n byte) (suc j)
@@ -67,10 +54,6 @@ pasted-blank n s =
 
 pub filled-by : (n : ℕ) (s : Bytes) {zeros written : Bytes} → zeros ≡ blank n → written ≡ pasted zeros 0 s → written ≡ filled n (take n s)
 filled-by n s e w = w ∙ rw e (pasted-blank n s)
-
--- A string that fits is not cut.
-pub filled-whole : (n : ℕ) (s : Bytes) → length s ≤ n → filled n (take n s) ≡ filled n s
-filled-whole n s h = rw (take-all n s h)
 
 -- The n bytes from a place on, where there are fewer.
 module _ (s : Bytes) (from n : ℕ) where

@@ -3,7 +3,7 @@
 ghost use mathlib.Core.Path.{_≡_};
 ghost use Prim.Native.Nat.{_-_, min};
 ghost use lib.ListN.{take, drop, replicate};
-ghost use Rattle.octets.specs.Octets.{byteAt, word, same, allDigits, allZero, blank, filled, pasted};
+ghost use Rattle.octets.specs.Octets.{byteAt, word, same, allDigits, allZero, pasted};
 
 // Whether a and b are the same string, in bytes and in length.
 pub fn equal(a: &[u8], b: &[u8]) -> bool
@@ -111,78 +111,6 @@ pub fn fill(dst: &mut [u8], at: usize, n: usize, byte: u8)
         dst[at + j] = byte;
         j += 1;
     }
-}
-
-// Arrays of zeros.
-pub fn blank_12() -> [u8; 12]
-    ensures { λ r. ⌜ r ≡ blank 12 ⌝ }
-{
-    [0u8; 12]
-}
-
-pub fn blank_21() -> [u8; 21]
-    ensures { λ r. ⌜ r ≡ blank 21 ⌝ }
-{
-    [0u8; 21]
-}
-
-pub fn blank_64() -> [u8; 64]
-    ensures { λ r. ⌜ r ≡ blank 64 ⌝ }
-{
-    [0u8; 64]
-}
-
-pub fn blank_256() -> [u8; 256]
-    ensures { λ r. ⌜ r ≡ blank 256 ⌝ }
-{
-    [0u8; 256]
-}
-
-pub fn blank_257() -> [u8; 257]
-    ensures { λ r. ⌜ r ≡ blank 257 ⌝ }
-{
-    [0u8; 257]
-}
-
-// Arrays with s, or as much of it as fits, in their first places and zeros after it.
-pub fn filled_12(s: &[u8]) -> [u8; 12]
-    ensures { λ r. ⌜ r ≡ filled 12 (take 12 (now (s .entry))) ⌝ }
-{
-    let mut bytes_12 = blank_12();
-    copy_at(&mut bytes_12, 0, s);
-    bytes_12
-}
-
-pub fn filled_21(s: &[u8]) -> [u8; 21]
-    ensures { λ r. ⌜ r ≡ filled 21 (take 21 (now (s .entry))) ⌝ }
-{
-    let mut bytes_21 = blank_21();
-    copy_at(&mut bytes_21, 0, s);
-    bytes_21
-}
-
-pub fn filled_64(s: &[u8]) -> [u8; 64]
-    ensures { λ r. ⌜ r ≡ filled 64 (take 64 (now (s .entry))) ⌝ }
-{
-    let mut bytes_64 = blank_64();
-    copy_at(&mut bytes_64, 0, s);
-    bytes_64
-}
-
-pub fn filled_256(s: &[u8]) -> [u8; 256]
-    ensures { λ r. ⌜ r ≡ filled 256 (take 256 (now (s .entry))) ⌝ }
-{
-    let mut bytes_256 = blank_256();
-    copy_at(&mut bytes_256, 0, s);
-    bytes_256
-}
-
-pub fn filled_257(s: &[u8]) -> [u8; 257]
-    ensures { λ r. ⌜ r ≡ filled 257 (take 257 (now (s .entry))) ⌝ }
-{
-    let mut bytes_257 = blank_257();
-    copy_at(&mut bytes_257, 0, s);
-    bytes_257
 }
 
 // A byte as a wider number.

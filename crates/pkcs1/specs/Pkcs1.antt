@@ -1,7 +1,7 @@
 -- Document 01, "Padding and delivery": RSA padding of RFC 8017 (EMSA-PKCS1-v1_5 and RSAES-PKCS1-v1_5), for RSA 2048.
 use Prim.Native.Nat.{ℕ, zero, suc, _+_, _-_}
 use mathlib.Core.Bool.{Bool, cond, _&&_, _||_}
-use mathlib.Core.List.{List, [], _∷_, _++_}
+use mathlib.Core.List.{[], _∷_, _++_}
 use lib.ListN.{length, drop, replicate}
 use lib.Dec.{eqb, leb, ltb}
 use Rattle.octets.specs.Octets.{Bytes, byteAt}

@@ -1,14 +1,10 @@
 -- Demand 3, whole.
-use mathlib.Core.Path.{_≡_, refl, sym, ap, _∙_}
-use mathlib.Core.Bool.{true}
-use Prim.Native.Nat.{ℕ, _<_}
+use mathlib.Core.Path.{ap, _∙_}
 use native.Mathlib.Omega.{arith}
 use Rattle.rules.specs.declared.Session.{Session}
-use Rattle.rules.specs.declared.Card.{Card}
-use Rattle.rules.specs.State.{good}
 use Rattle.rules.specs.Session.{newSession}
 use Rattle.rules.specs.Image.{load}
-use Rattle.rules.specs.Counting.{Call, next, ofBytes}
+use Rattle.rules.specs.Counting.{ofBytes}
 use Rattle.rules.specs.Demands.{Demand3}
 use Rattle.rules.proofs.SequenceBound.{wrong-bound, signature-bound}
 use Rattle.rules.proofs.SequenceMet.{met}

@@ -1,13 +1,12 @@
 -- What a call of bytes gives, and that it keeps a good card good.
 use mathlib.Core.Path.{_≡_, ap, refl}
-use mathlib.Core.Logic.{_≢_}
 use mathlib.Core.Bool.{Bool, true, not, _&&_, _||_, or-false}
 use mathlib.Core.List.{List, [], _++_}
 use Prim.Native.Nat.{ℕ, _+_, _-_, _≤_, _<_}
 use native.Mathlib.Omega.{arith}
 use lib.Dec.{eqb, leb}
 use lib.ListN.{length, drop, length-take}
-use borrow.Author.Tests.{eqb-true, eqb-false, leb-true, ltb-false, not-false, not-true}
+use borrow.Author.Tests.{eqb-true, leb-true, ltb-false, not-false}
 use Rattle.octets.specs.Octets.{Bytes, byteAt, member, allBytes}
 use Rattle.octets.proofs.Tests.{split, and-left, and-right}
 use Rattle.octets.proofs.Buffers.{byte-below}
@@ -58,13 +57,6 @@ module _ (h : Header) (parameters : goodParameters h ≡ true) where
   pub reset-code : h .ins ≡ 0x2C → h .p2 < 3
   unfolding goodParameters
   reset-code i = p2-below-three (leb 1 (h .p2)) (and-right (eqb (h .p1) 0x00 || eqb (h .p1) 0x03) _ (simp (i, or-false) at parameters))
-
-  -- READ RECORD counts from 1
-  pub record-number : h .ins ≡ 0xB2 → 1 ≤ h .p1
-  unfolding goodParameters
-  record-number i =
-      let some : h .p1 ≢ 0 = eqb-false (h .p1) 0 (not-true _ (and-left (not (eqb (h .p1) 0x00)) (eqb (h .p2) 0x04) (simp (i, or-false) at parameters))) in
-      omega arith
 
 pub authenticate-length : (h : Header) → goodLengths h ≡ true → h .ins ≡ 0x88 → h .lc ≤ 245
 unfolding goodLengths

@@ -11,7 +11,7 @@ use Rattle.octets.proofs.Buffers.{each-place}
 use Rattle.rules.specs.declared.Card.{Card}
 use Rattle.rules.specs.declared.Code.{Code}
 use Rattle.rules.specs.declared.Header.{Header}
-use Rattle.rules.specs.Codes.{PUK, fullTries, allowed, value, marked, noCode, codeOf, withCode, closed}
+use Rattle.rules.specs.Codes.{PUK, fullTries, allowed, value, marked, zeroCode, codeOf, withCode, closed}
 use Rattle.rules.specs.State.{goodCode, good}
 use Rattle.rules.specs.Answers.{Step}
 use Rattle.rules.specs.CodeCommands.{judged, verify, oldValue, newValue, change, unblockByVerifiedPuk, unblockByPresentedPuk, resetRetry}
@@ -23,7 +23,7 @@ module _ (c : Card) (g : good c ≡ true) where
   with-code-good : (k : ℕ) → k < 3 → (v : Code) → goodCode k v ≡ true → good (withCode c k v) ≡ true
   with-code-good k b v h =
       good-card (withCode c k v)
-      (λ i n. each-place (λ i v. goodCode i v ≡ true) (c .codes) k v noCode (code-place c g k b) h i (good-code c g i n))
+      (λ i n. each-place (λ i v. goodCode i v ≡ true) (c .codes) k v zeroCode (code-place c g k b) h i (good-code c g i n))
       (good-references c g)
       (good-records c g)
       (good-session c g)

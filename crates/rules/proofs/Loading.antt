@@ -7,7 +7,7 @@ use native.Mathlib.Omega.{arith}
 use lib.Dec.{ltb}
 use lib.ListN.{length}
 use borrow.Author.Tests.{leb-true, eq-eqb}
-use Rattle.octets.specs.Octets.{Bytes, word, all, blank, filled}
+use Rattle.octets.specs.Octets.{Bytes, word, all, blank}
 use Rattle.octets.proofs.Tests.{and-left, and-right, below-three}
 use Rattle.octets.proofs.Lists.{between, byte-after, rest-after}
 use Rattle.rules.specs.declared.Card.{Card}
@@ -19,7 +19,7 @@ use Rattle.rules.specs.declared.LoadResult.the-variants.{Accepted, Fault
 use Rattle.rules.specs.Codes.{PUK, PIN1, PIN2, least, most, allowed, storing, codeOf}
 use Rattle.rules.specs.Keys.{signatureKey, authenticationKey, usable, activeKey}
 use Rattle.rules.specs.Session.{newSession}
-use Rattle.rules.specs.State.{goodRoom, goodCode, goodReferences, goodRecord, goodRecords, goodSelection, goodEnvironment, goodJob, goodSession, good}
+use Rattle.rules.specs.State.{goodRoom, goodCode, goodReferences, goodRecord, goodRecords, good}
 use Rattle.rules.specs.Image.{Read, got, fault, Reader, continued, require, byteIf, bytesIf, readCode, readKeys, eachClass, keyMarks, readPersonal, readRecords, end, readCard, faultNumber, zeroCard, loaded, load}
 use Rattle.rules.specs.Counting.{imageFrom, triesAtLoad}
 use Rattle.rules.specs.Demands.{Images}

@@ -1,20 +1,20 @@
 -- What a good state's parts obey, and a good state made of good parts.
-use mathlib.Core.Path.{_≡_, refl, sym, ap, _∙_}
+use mathlib.Core.Path.{_≡_}
 use mathlib.Core.Logic.{_≢_}
-use mathlib.Core.Bool.{Bool, true, false, not, cond, _&&_, _||_}
-use mathlib.Core.List.{List, [], _∷_, _++_}
-use Prim.Native.Nat.{ℕ, zero, suc, _+_, _-_, _≤_, _<_}
+use mathlib.Core.Bool.{Bool, true, false, not, _&&_, _||_}
+use mathlib.Core.List.{List, [], _∷_}
+use Prim.Native.Nat.{ℕ, _-_, _≤_, _<_}
 use native.Mathlib.Omega.{arith}
 use lib.Dec.{eqb, leb, ltb}
 use lib.ListN.{length, getD, set, take, drop, length-take, List·getD-eq-default}
 use lib.Seq.{getD-set-same, getD-set-other}
 use borrow.Author.Tests.{eqb-true, leb-true, ltb-true, ltb-false, eq-eqb, le-leb}
-use Rattle.octets.specs.Octets.{Bytes, every, allDigits, allZero, filled}
+use Rattle.octets.specs.Octets.{Bytes, allDigits, allZero, filled}
 use Rattle.octets.proofs.Tests.{split, by-test, and-left, and-right, nth, below-three}
 use Rattle.octets.proofs.Strings.{length-filled, take-filled, rest-filled}
 use Rattle.rules.specs.declared.Card.{Card}
 use Rattle.rules.specs.declared.Code.{Code}
-use Rattle.rules.specs.Codes.{PUK, PIN1, PIN2, least, most, fullTries, allowed, value, storing, marked, noCode, codeOf, withCode}
+use Rattle.rules.specs.Codes.{PUK, PIN1, PIN2, least, most, fullTries, allowed, value, storing, marked, zeroCode, codeOf}
 use Rattle.rules.specs.State.{goodRoom, goodCode, goodReferences, goodRecords, goodSession, good}
 
 -- A string in room of a stated size.
@@ -129,11 +129,11 @@ unfolding good
 good-card c codes references records session = simp (codes 0 (omega arith), codes 1 (omega arith), codes 2 (omega arith), references, records, session)
 
 -- Where a good code stands, there is a place.
-pub code-in : (l : List Code) (k : ℕ) → goodCode k (getD l k noCode) ≡ true → k < length l
+pub code-in : (l : List Code) (k : ℕ) → goodCode k (getD l k zeroCode) ≡ true → k < length l
 code-in l k g = by-test _ (ltb k (length l))
     (λ e. ltb-true k (length l) e)
-    (λ e. let h : goodCode k noCode ≡ true = rw (List·getD-eq-default l noCode (ltb-false k (length l) e)) at g in
-    absurd (omega (arith, least-some k, code-least k noCode h)))
+    (λ e. let h : goodCode k zeroCode ≡ true = rw (List·getD-eq-default l zeroCode (ltb-false k (length l) e)) at g in
+    absurd (omega (arith, least-some k, code-least k zeroCode h)))
 
 -- Each code of a good card has a place.
 pub code-place : (c : Card) → good c ≡ true → (k : ℕ) → k < 3 → k < length (c .codes)
@@ -141,8 +141,8 @@ code-place c g k h = code-in (c .codes) k (good-code c g k h)
 
 -- Codes read back after one was replaced.
 module _ (l : List Code) (j : ℕ) (v : Code) (h : j < length l) where
-  pub code-same : getD (set l j v) j noCode ≡ v
-  code-same = getD-set-same l j v noCode h
+  pub code-same : getD (set l j v) j zeroCode ≡ v
+  code-same = getD-set-same l j v zeroCode h
 
-  pub code-other : (k : ℕ) → k ≢ j → getD (set l j v) k noCode ≡ getD l k noCode
-  code-other k n = getD-set-other l j k v noCode n
+  pub code-other : (k : ℕ) → k ≢ j → getD (set l j v) k zeroCode ≡ getD l k zeroCode
+  code-other k n = getD-set-other l j k v zeroCode n

@@ -1,5 +1,5 @@
 -- Demand 3's two bounds follow from the code sheet: what one call adds, and the sum over a sequence.
-use mathlib.Core.Path.{_≡_, refl, sym, ap, _∙_}
+use mathlib.Core.Path.{_≡_, refl, ap, _∙_}
 use mathlib.Core.Bool.{Bool, true, false, not, cond, _&&_, _||_, or-true, false≢true}
 use mathlib.Core.List.{List, [], _∷_}
 use Prim.Native.Nat.{ℕ, _+_, _-_, _*_, _≤_, _<_}
@@ -11,8 +11,8 @@ use Rattle.rules.specs.declared.Card.{Card}
 use Rattle.rules.specs.declared.Reply.{Reply}
 use Rattle.rules.specs.declared.Reply.the-variants.{Refused, Response, HandedOut, WasReset}
 use Rattle.rules.specs.Codes.{PIN2, codeOf}
-use Rattle.rules.specs.Counting.{Call, Exchange, step, next, exchange, after, trace, statusWord, replyStatus, replyKind, byCommand, okStatus, verifies, wrongAnswer, restoration, unblocking, rightVerify, handsSignature, one, wrongAnswers, restorations, unblockings, signatures, pin2Presentations}
-use Rattle.rules.specs.CodeSheet.{Sheet, CodeSheet, opens, closes}
+use Rattle.rules.specs.Counting.{Call, Exchange, next, exchange, after, trace, replyStatus, replyKind, byCommand, okStatus, wrongAnswer, restoration, unblocking, rightVerify, handsSignature, one, wrongAnswers, restorations, unblockings, signatures, pin2Presentations}
+use Rattle.rules.specs.CodeSheet.{opens, closes}
 use Rattle.rules.proofs.Sheet.{code-sheet}
 
 -- Tries before and after a call that may be a wrong answer, a restoration, an unblocking.

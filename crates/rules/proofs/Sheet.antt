@@ -2,15 +2,15 @@
 use mathlib.Core.Path.{_≡_, refl, sym, ap, _∙_}
 use mathlib.Core.Logic.{_≢_}
 use mathlib.Core.Bool.{Bool, true, false, not, cond, _&&_, _||_, or-false, and-false, and-true, false≢true}
-use mathlib.Core.List.{List, [], _∷_, _++_}
-use Prim.Native.Nat.{ℕ, zero, suc, _+_, _-_, _*_, _/_, _%_, _≤_, _<_}
+use mathlib.Core.List.{[], _∷_, _++_}
+use Prim.Native.Nat.{ℕ, _+_, _-_, _≤_, _<_}
 use native.Mathlib.Omega.{arith}
 use lib.Dec.{eqb, leb, ltb}
-use lib.ListN.{length, getD, set, take, drop, length-set}
+use lib.ListN.{length, take, drop, length-set}
 use borrow.Author.Tests.{eqb-true, eqb-false, eq-eqb, ne-eqb, leb-true, le-leb, lt-leb, not-false}
-use Rattle.octets.specs.Octets.{Bytes, byteAt, word, same, member, filled}
+use Rattle.octets.specs.Octets.{Bytes, byteAt, word, same, member}
 use Rattle.pkcs1.specs.Pkcs1.{padded}
-use Rattle.octets.proofs.Tests.{split, by-test, either, and-left, and-right, or-cases, below-three}
+use Rattle.octets.proofs.Tests.{split, either, and-left, and-right, below-three}
 use Rattle.octets.proofs.Strings.{take-filled, same-equal}
 use Rattle.rules.specs.declared.Card.{Card}
 use Rattle.rules.specs.declared.Code.{Code}
@@ -23,9 +23,7 @@ use Rattle.rules.specs.declared.JobKind.the-variants.{Sign}
 use Rattle.rules.specs.declared.Session.{Session}
 use Rattle.rules.specs.declared.Refusal.{Refusal}
 use Rattle.rules.specs.declared.Refusal.the-variants.{BadState, ShortBuffer, CertificateLength, JobWaiting, NoJobWaiting}
-use Rattle.rules.specs.declared.Reply.{Reply}
-use Rattle.rules.specs.declared.Reply.the-variants.{Refused, Response, HandedOut, WasReset}
-use Rattle.rules.specs.Codes.{PUK, PIN1, PIN2, allowed, most, value, storing, marked, noCode, codeOf, withCode, closed}
+use Rattle.rules.specs.Codes.{PUK, PIN1, PIN2, allowed, value, storing, marked, codeOf, withCode, closed}
 use Rattle.rules.specs.Apdu.{parse, dataOf}
 use Rattle.rules.specs.State.{good}
 use Rattle.rules.specs.Keys.{kindNumber, ofClass, present, keyFor}
@@ -35,11 +33,11 @@ use Rattle.rules.specs.Answers.{Answer, Step, SessionStep, response, job
 use Rattle.rules.specs.FileCommands.{select, readRecord, readBinary, getResponse}
 use Rattle.rules.specs.Digests.{isDigest}
 use Rattle.rules.specs.KeyCommands.{setEnvironment, kindChosen, chooseKey, internalAuthenticate, sign, decipher}
-use Rattle.rules.specs.CodeCommands.{judged, verify, change, oldValue, newValue, unblockByVerifiedPuk, unblockByPresentedPuk, resetRetry}
+use Rattle.rules.specs.CodeCommands.{judged, verify, change, newValue, unblockByVerifiedPuk, unblockByPresentedPuk, resetRetry}
 use Rattle.rules.specs.Judgement.{classes, instructions, badChaining, goodParameters, goodLengths, hasData, dropPending, sessionCommand, ownRules, judgeHeader, judgeForm, judge}
 use Rattle.rules.specs.Delivery.{deliver}
-use Rattle.rules.specs.Edge.{responseIn, refused, written, shortBuffer, badCertificate, jobWaits, command, delivery, powerReset}
-use Rattle.rules.specs.Counting.{Call, Command, Delivery, PowerReset, Exchange, step, exchangeOf, statusWord, replyStatus, replyKind, isCommand, formIs, okStatus, wrongStatus, verifies, changes, presentsPuk, unblocks, presents, wrongAnswer, restoration, unblocking, rightVerify, byCommand, handsJob, handsSignature}
+use Rattle.rules.specs.Edge.{refused, written, shortBuffer, badCertificate, jobWaits, command, delivery, powerReset}
+use Rattle.rules.specs.Counting.{Call, Command, Delivery, PowerReset, Exchange, step, exchangeOf, statusWord, replyStatus, replyKind, isCommand, formIs, okStatus, wrongStatus, verifies, changes, presentsPuk, unblocks, presents, wrongAnswer, restoration, unblocking, rightVerify, handsSignature}
 use Rattle.rules.specs.CodeSheet.{CodeSheet, changed, anyUnblocks, anyUnblocked, byVerifiedPuk, presentedBy, presentedIn, handsPin1Job, storesPin, wasReset, opens, closes, Sheet, dataSent}
 use Rattle.rules.proofs.StatusWords.{status-read, wrong-status, wrong-not-ok}
 use Rattle.rules.proofs.Parts.{good-code, code-length, code-tries, allowed-most, code-place, code-same, code-other}

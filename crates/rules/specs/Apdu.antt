@@ -1,6 +1,6 @@
 -- Document 01, "Order of judgement for a command", step 1: the length forms of a command APDU.
 use Prim.Native.Nat.{ℕ, _+_, _-_}
-use mathlib.Core.Bool.{Bool, cond, _&&_}
+use mathlib.Core.Bool.{cond, _&&_}
 use lib.ListN.{length, take, drop}
 use lib.Dec.{eqb, leb}
 use Rattle.octets.specs.Octets.{Bytes, byteAt}

@@ -14,9 +14,9 @@ use Rattle.rules.specs.Codes.{PUK, PIN1, PIN2, codeOf}
 use Rattle.rules.specs.Keys.{kindNumber}
 use Rattle.rules.specs.Digests.{sha1Prefix}
 use Rattle.rules.specs.Edge.{refusalNumber}
-use Rattle.rules.specs.Counting.{Call, Command, Delivery, PowerReset, Exchange, trace, after, replyStatus}
+use Rattle.rules.specs.Counting.{Call, Command, Delivery, PowerReset, trace, after, replyStatus}
 use Rattle.rules.specs.Image.{load, loadNumber}
-use Rattle.rules.specs.Sample.{sampleCard, pin1, pin2, puk}
+use Rattle.rules.specs.Sample.{sampleCard, pin1, pin2}
 
 -- What is seen of a call: response data and status word; a job's kind, key and block; an edge refusal's number; or a reset.
 -- Of a code afterwards: its number, tries and mark. Of load: its number. Of padding: its answer, and how many bytes FF stand after 00 01.

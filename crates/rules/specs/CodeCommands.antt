@@ -1,6 +1,6 @@
 -- Document 01, "Order of judgement for a command", step 7: VERIFY, CHANGE REFERENCE DATA and RESET RETRY COUNTER.
 use Prim.Native.Nat.{ℕ, _+_, _-_}
-use mathlib.Core.Bool.{Bool, true, false, cond, not}
+use mathlib.Core.Bool.{true, false, cond, not}
 use lib.ListN.{take, drop}
 use lib.Dec.{eqb}
 use Rattle.octets.specs.Octets.{Bytes, same}

@@ -3,9 +3,9 @@
 use Prim.Native.Nat.{ℕ, _+_, _-_, _≤_, _<_}
 use mathlib.Core.Path.{_≡_}
 use mathlib.Core.Bool.{Bool, true, false, cond, not, _&&_, _||_}
-use mathlib.Core.List.{List, []}
+use mathlib.Core.List.{[]}
 use lib.ListN.{length, take, drop}
-use lib.Dec.{eqb, leb}
+use lib.Dec.{eqb}
 use Rattle.octets.specs.Octets.{Bytes, same}
 use Rattle.rules.specs.declared.Card.{Card}
 use Rattle.rules.specs.declared.Outcome.{Outcome}
@@ -16,7 +16,7 @@ use Rattle.rules.specs.declared.Reply.{Reply}
 use Rattle.rules.specs.declared.Reply.the-variants.{Refused, Response, HandedOut, WasReset}
 use Rattle.rules.specs.Codes.{PUK, PIN1, PIN2, fullTries, value, codeOf}
 use Rattle.rules.specs.Apdu.{parse, dataOf}
-use Rattle.rules.specs.Counting.{Call, Command, Delivery, PowerReset, Exchange, step, exchangeOf, statusWord, okStatus, verifies, changes, unblocks, presentsPuk, answers, wrongAnswer, restoration, unblocking, rightVerify, handsJob, handsSignature}
+use Rattle.rules.specs.Counting.{Call, Command, Delivery, PowerReset, Exchange, step, exchangeOf, statusWord, okStatus, changes, unblocks, presentsPuk, answers, wrongAnswer, restoration, unblocking, rightVerify, handsJob, handsSignature}
 
 -- 9000 to a CHANGE of code k.
 abbrev pub changed : ℕ → Exchange → Bool

@@ -2,10 +2,9 @@
 -- "Tries left" is document 01's term for the retry counter, "verified mark" for the verified state of a code.
 use Prim.Native.Nat.{ℕ, _-_}
 use mathlib.Core.Bool.{Bool, false, cond, _&&_}
-use mathlib.Core.List.{List, []}
 use lib.ListN.{length, take, getD, set}
 use lib.Dec.{eqb, leb}
-use Rattle.octets.specs.Octets.{Bytes, allDigits, filled}
+use Rattle.octets.specs.Octets.{Bytes, allDigits, blank, filled}
 use Rattle.rules.specs.declared.Code.{Code}
 use Rattle.rules.specs.declared.Card.{Card}
 
@@ -47,13 +46,13 @@ storing d tries verified = record { digits = filled most d; len = length d; trie
 abbrev pub marked : Code → ℕ → Bool → Code
 marked v tries verified = record { digits = v .digits; len = v .len; tries = tries; verified = verified }
 
--- What stands where there is no code.
-abbrev pub noCode : Code
-noCode = record { digits = []; len = 0; tries = 0; verified = false }
+-- A code of all zeros: in the all-zero state, and what stands where there is no code.
+abbrev pub zeroCode : Code
+zeroCode = record { digits = blank 12; len = 0; tries = 0; verified = false }
 
 -- Code k of the card.
 abbrev pub codeOf : Card → ℕ → Code
-codeOf c k = getD (c .codes) k noCode
+codeOf c k = getD (c .codes) k zeroCode
 
 -- The card with code k replaced.
 abbrev pub withCode : Card → ℕ → Code → Card

@@ -3,7 +3,7 @@
 use Prim.Native.Nat.{ℕ, zero, suc, _+_, _-_}
 use mathlib.Core.Bool.{Bool, true, false, _&&_, _||_}
 use mathlib.Core.List.{List, [], _∷_}
-use lib.ListN.{getD, drop}
+use lib.ListN.{drop}
 use lib.Dec.{eqb, leb}
 use Rattle.octets.specs.Octets.{Bytes, byteAt, word, allBytes}
 use Rattle.rules.specs.declared.Card.{Card}

@@ -1,8 +1,7 @@
 -- Document 01, "Padding and delivery": what a delivered result gives. "Delivery" is document 01's term for the key host's result.
-use Prim.Native.Nat.{ℕ}
 use mathlib.Core.Bool.{cond, not}
 use lib.ListN.{length, drop}
-use lib.Dec.{eqb, leb}
+use lib.Dec.{eqb}
 use Rattle.octets.specs.Octets.{Bytes}
 use Rattle.pkcs1.specs.Pkcs1.{strip}
 use Rattle.rules.specs.declared.Session.{Session}

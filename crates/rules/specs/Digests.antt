@@ -1,7 +1,7 @@
 -- Document 01, "Digests (RFC 8017)": the five DigestInfo forms that SIGN accepts.
 use Prim.Native.Nat.{ℕ, _+_}
 use mathlib.Core.Bool.{Bool, _&&_, _||_}
-use mathlib.Core.List.{List, [], _∷_}
+use mathlib.Core.List.{[], _∷_}
 use lib.ListN.{length, take}
 use lib.Dec.{eqb}
 use Rattle.octets.specs.Octets.{Bytes, same}

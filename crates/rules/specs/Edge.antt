@@ -16,7 +16,7 @@ use Rattle.rules.specs.Codes.{PUK, PIN1, PIN2, closed}
 use Rattle.rules.specs.Keys.{kindNumber}
 use Rattle.rules.specs.Session.{newSession, withSession}
 use Rattle.rules.specs.State.{good}
-use Rattle.rules.specs.Answers.{Answer, Step, response, job, inSession}
+use Rattle.rules.specs.Answers.{Answer, response, job, inSession}
 use Rattle.rules.specs.Judgement.{judge}
 use Rattle.rules.specs.Delivery.{deliver}
 

@@ -1,7 +1,6 @@
 -- Document 01, "Order of judgement for a command", step 7: SELECT, READ RECORD, READ BINARY and GET RESPONSE.
-use Prim.Native.Nat.{ℕ, _-_}
+use Prim.Native.Nat.{_-_}
 use mathlib.Core.Bool.{cond, not, _&&_}
-use mathlib.Core.List.{[]}
 use lib.ListN.{length, take, drop}
 use lib.Dec.{eqb, leb, ltb}
 use Rattle.octets.specs.Octets.{Bytes, byteAt, word, member}

@@ -1,7 +1,7 @@
 -- Document 01, "What the card has": the files and their records.
 use Prim.Native.Nat.{ℕ, _-_}
 use mathlib.Core.Bool.{Bool, cond, _||_}
-use mathlib.Core.List.{List, [], _∷_, _++_}
+use mathlib.Core.List.{List, [], _∷_}
 use lib.ListN.{take, getD}
 use lib.Dec.{eqb}
 use Rattle.octets.specs.Octets.{Bytes}

@@ -3,13 +3,13 @@ use Prim.Native.Nat.{ℕ}
 use mathlib.Core.Path.{_≡_}
 use mathlib.Core.Bool.{true, false}
 use mathlib.Core.List.{List, [], _∷_, _++_, map}
-use lib.ListN.{length, take, drop, replicate}
+use lib.ListN.{length, take, replicate}
 use Rattle.octets.specs.Octets.{Bytes}
 use Rattle.rules.specs.Codes.{PUK, PIN1, PIN2}
 use Rattle.rules.specs.Image.{zeroCard}
 use Rattle.rules.specs.Counting.{Call, Command, Delivery, PowerReset}
 use Rattle.rules.specs.Sample.{sampleImage, references, pin1, pin2, puk}
-use Rattle.rules.specs.Cases.{Seen, shows, hands, edge, isReset, code, loads, Case, onCard, onSample, loading, buffer, send, deliverTo, withBody, verifyOf, wrongPin1, sha1Digest, signSha1, signJob, chooseKeyOf, decipherPart, sw, fresh}
+use Rattle.rules.specs.Cases.{Seen, shows, hands, edge, isReset, code, loads, Case, onCard, onSample, loading, buffer, send, deliverTo, withBody, verifyOf, wrongPin1, signSha1, signJob, chooseKeyOf, decipherPart, sw, fresh}
 
 -- Commands with no data, with Le, and with data and Le.
 abbrev pub bare : ℕ → ℕ → ℕ → ℕ → Call

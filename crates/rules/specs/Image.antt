@@ -13,7 +13,7 @@ use Rattle.rules.specs.declared.Fault.the-variants.{EndsEarly, WrongCoun
 use Rattle.rules.specs.declared.Loaded.{Loaded}
 use Rattle.rules.specs.declared.LoadResult.{LoadResult}
 use Rattle.rules.specs.declared.LoadResult.the-variants.{Accepted, Faulty}
-use Rattle.rules.specs.Codes.{PUK, PIN1, PIN2, least, most, fullTries, storing}
+use Rattle.rules.specs.Codes.{PUK, PIN1, PIN2, least, most, fullTries, storing, zeroCode}
 use Rattle.rules.specs.Keys.{signatureKey, authenticationKey, usable, activeKey}
 use Rattle.rules.specs.Session.{newSession}
 
@@ -147,9 +147,6 @@ readCard = do
   pure (record { codes = puk ∷ pin1 ∷ pin2 ∷ []; keys = keyMarks keys; references = references; personal = personal; session = newSession })
 
 -- The all-zero state, which isn't good.
-abbrev pub zeroCode : Code
-zeroCode = record { digits = blank 12; len = 0; tries = 0; verified = false }
-
 abbrev pub zeroRecord : Record
 zeroRecord = record { bytes = blank 64; len = 0 }
 

@@ -5,7 +5,6 @@ use mathlib.Core.List.{List, [], _∷_}
 use lib.Dec.{eqb, leb, ltb}
 use Rattle.octets.specs.Octets.{Bytes, member}
 use Rattle.rules.specs.declared.Card.{Card}
-use Rattle.rules.specs.declared.Session.{Session}
 use Rattle.rules.specs.declared.Header.{Header}
 use Rattle.rules.specs.declared.Parsed.{Parsed}
 use Rattle.rules.specs.declared.Parsed.the-variants.{Form, Malformed}

@@ -2,7 +2,7 @@
 -- and PERFORM SECURITY OPERATION (2A): SIGN and DECIPHER.
 use Prim.Native.Nat.{ℕ, _-_}
 use mathlib.Core.Bool.{Bool, cond, not, _&&_, _||_}
-use mathlib.Core.List.{List, [], _∷_, _++_}
+use mathlib.Core.List.{[], _∷_, _++_}
 use lib.ListN.{length, take, drop, set}
 use lib.Dec.{eqb, ltb}
 use Rattle.octets.specs.Octets.{Bytes, byteAt, word, same}
@@ -31,13 +31,17 @@ kindChosen p2 = cond (eqb p2 0xA4) (kindNumber Authenticate) (cond (eqb p2 0xB6)
 abbrev pub choosing : Session → ℕ → ℕ → Session
 choosing s kind key = withEnvironment s (s .environment .number) (set (s .environment .choices) (kind - 1) key)
 
+-- The shape of 22 41 that names a key: 83 03 80 and two bytes.
+abbrev pub namesKey : Bytes → Bool
+namesKey d = eqb (length d) 5 && same (take 3 d) (0x83 ∷ 0x03 ∷ 0x80 ∷ [])
+
 -- 22 41. 83 00 chooses active; 83 03 80 and two bytes a key. Other shape, unknown key or wrong class 6A80; key not on the card 6A88.
 unfoldable pub chooseKey : Card → Session → Header → Bytes → SessionStep
 chooseKey c s h d =
     let kind = kindChosen (h .p2) in
     let key = word (byteAt d 3) (byteAt d 4) in
     cond (same d (0x83 ∷ 0x00 ∷ [])) (sessionStatus (choosing s kind 0) 0x9000)
-    (cond (not (eqb (length d) 5 && same (take 3 d) (0x83 ∷ 0x03 ∷ 0x80 ∷ []))) (sessionStatus s 0x6A80)
+    (cond (not (namesKey d)) (sessionStatus s 0x6A80)
     (cond (not (ofClass kind key)) (sessionStatus s 0x6A80)
     (cond (not (present (c .keys) key)) (sessionStatus s 0x6A88)
     (sessionStatus (choosing s kind key) 0x9000))))
@@ -59,16 +63,22 @@ sign c s h d =
     (cond (not (codeOf c PIN2 .verified)) (refusing 0x6982)
     (inSession (closed c PIN2) (handOut s Sign (keyFor c s (kindNumber Sign)) (h .le) (padded d)))))
 
--- 2A 80 86 DECIPHER joins the chain. Over 257: 6700. Class 10h: 9000. Class 00h: total not 257, 6700; first byte not 00, 6A80;
--- environment not 6: 6985; PIN1 not verified 6982; job 3 with the last 256. All but the 9000 empty the chain.
+-- 2A 80 86 DECIPHER of class 00h, once 257 bytes are joined: first byte not 00, 6A80; environment not 6: 6985; PIN1 not verified 6982;
+-- job 3 with the last 256. Each empties the chain.
+abbrev pub decipherWhole : Card → Session → Header → Bytes → SessionStep
+decipherWhole c s h joined =
+    let emptied = dropChain s in
+    cond (not (eqb (byteAt joined 0) 0x00)) (sessionStatus emptied 0x6A80)
+    (cond (not (eqb (s .environment .number) 6)) (sessionStatus emptied 0x6985)
+    (cond (not (codeOf c PIN1 .verified)) (sessionStatus emptied 0x6982)
+    (handOut emptied Decipher (keyFor c s (kindNumber Decipher)) (h .le) (drop 1 joined))))
+
+-- 2A 80 86 DECIPHER joins the chain. Over 257: 6700. Class 10h: 9000. Class 00h: total not 257, 6700; else the whole is deciphered.
+-- All but the 9000 empty the chain.
 unfoldable pub decipher : Card → Session → Header → Bytes → SessionStep
 decipher c s h d =
     let joined = chainBytes s ++ d in
-    let emptied = dropChain s in
-    cond (ltb 257 (length joined)) (sessionStatus emptied 0x6700)
+    cond (ltb 257 (length joined)) (sessionStatus (dropChain s) 0x6700)
     (cond (eqb (h .cla) 0x10) (sessionStatus (withChain s joined) 0x9000)
-    (cond (not (eqb (length joined) 257)) (sessionStatus emptied 0x6700)
-    (cond (not (eqb (byteAt joined 0) 0x00)) (sessionStatus emptied 0x6A80)
-    (cond (not (eqb (s .environment .number) 6)) (sessionStatus emptied 0x6985)
-    (cond (not (codeOf c PIN1 .verified)) (sessionStatus emptied 0x6982)
-    (handOut emptied Decipher (keyFor c s (kindNumber Decipher)) (h .le) (drop 1 joined)))))))
+    (cond (not (eqb (length joined) 257)) (sessionStatus (dropChain s) 0x6700)
+    (decipherWhole c s h joined)))

@@ -2,7 +2,7 @@
 -- for the key of a class that the card uses by itself, and for the key that a MANAGE SECURITY ENVIRONMENT names instead.
 use Prim.Native.Nat.{ℕ, _-_}
 use mathlib.Core.Bool.{Bool, false, cond, _&&_, _||_}
-use mathlib.Core.List.{List, [], _∷_}
+use mathlib.Core.List.{List}
 use lib.ListN.{getD}
 use lib.Dec.{eqb}
 use Rattle.octets.specs.Octets.{Bytes, byteAt, word}

@@ -3,9 +3,9 @@
 use Prim.Native.Nat.{ℕ, zero, suc}
 use mathlib.Core.Path.{_≡_}
 use mathlib.Core.Bool.{true, false}
-use mathlib.Core.List.{List, [], _∷_, _++_}
+use mathlib.Core.List.{[], _∷_, _++_}
 use lib.ListN.{replicate}
-use Rattle.octets.specs.Octets.{Bytes, blank, filled}
+use Rattle.octets.specs.Octets.{Bytes, filled}
 use Rattle.rules.specs.declared.Card.{Card}
 use Rattle.rules.specs.Codes.{fullTries, storing}
 use Rattle.rules.specs.declared.LoadResult.the-variants.{Accepted}

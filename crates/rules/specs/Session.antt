@@ -5,8 +5,6 @@ use lib.ListN.{length, take}
 use Rattle.octets.specs.Octets.{Bytes, filled}
 use Rattle.rules.specs.declared.Card.{Card}
 use Rattle.rules.specs.declared.Session.{Session}
-use Rattle.rules.specs.declared.Selection.{Selection}
-use Rattle.rules.specs.declared.Environment.{Environment}
 use Rattle.rules.specs.declared.Held.{Held}
 use Rattle.rules.specs.declared.Chain.{Chain}
 use Rattle.rules.specs.declared.Job.{Job}

@@ -4,8 +4,7 @@ use rules::Job;
 use rules::JobKind;
 use rules::Session;
 ghost use mathlib.Core.Path.{_≡_};
-ghost use Prim.Native.Nat.{_≤_};
-ghost use lib.ListN.{take};
+ghost use lib.ListN.{length, take};
 ghost use Rattle.rules.specs.Answers.{response, sessionStatus, moreBytes, give, handOut};
 ghost use Rattle.session_steps.specs.Steps.{sessionStepOf};
 
@@ -37,11 +36,11 @@ pub fn session_data(s: Session, d: &[u8], sw: u16) -> SessionOutput
     }
 }
 
-// 61 and n, 256 as 00.
-pub fn more_bytes(n: usize) -> u16
-    requires { ⌜ n ≤ 256 ⌝ }
-    ensures { λ r. ⌜ r ≡ moreBytes n ⌝ }
+// 61 and the number of bytes, of which at most 256 count, 256 as 00.
+pub fn more_bytes(d: &[u8]) -> u16
+    ensures { λ r. ⌜ r ≡ moreBytes (length (take 256 (now (d .entry)))) ⌝ }
 {
+    let n = octets::part(d, 0, 256).len();
     if n == 256 {
         return 0x6100;
     }
@@ -58,7 +57,7 @@ pub fn give(s: Session, le: usize, d: &[u8]) -> SessionOutput
         return session_data(s, shown, 0x9000);
     }
     let held = state::with_held(s, shown);
-    session_status(held, more_bytes(n))
+    session_status(held, more_bytes(shown))
 }
 
 // A job is handed out, and waits with its Le.

@@ -8,25 +8,40 @@ use rules::Job;
 use rules::Selection;
 use rules::Session;
 ghost use mathlib.Core.Path.{_≡_};
-ghost use Prim.Native.Nat.{_<_};
 ghost use lib.ListN.{take};
-ghost use Rattle.rules.specs.Codes.{codeOf, withCode, closed};
+ghost use Rattle.rules.specs.Codes.{zeroCode, codeOf, withCode, closed};
 ghost use Rattle.rules.specs.Session.{holding, joining, withSelection, withEnvironment, withHeld, withChain, withJob, dropHeld, dropChain, newSession, withSession};
 ghost use Rattle.rules.specs.Judgement.{dropPending};
 
-// The code of a number.
+// A code of all zeros.
+pub fn zero_code() -> Code
+    ensures { λ r. ⌜ r ≡ zeroCode ⌝ }
+{
+    Code {
+        digits: arrays::blank_12(),
+        len: 0,
+        tries: 0,
+        verified: false,
+    }
+}
+
+// The code of a number; all zeros where there is none.
 pub fn code_of(card: Card, number: usize) -> Code
-    requires { ⌜ number < 3 ⌝ }
     ensures { λ r. ⌜ r ≡ codeOf card number ⌝ }
 {
+    if 3 <= number {
+        return zero_code();
+    }
     card.codes[number]
 }
 
-// The card with the code of a number replaced.
+// The card with the code of a number replaced; the card itself where there is none.
 pub fn with_code(card: Card, number: usize, code: Code) -> Card
-    requires { ⌜ number < 3 ⌝ }
     ensures { λ r. ⌜ r ≡ withCode card number code ⌝ }
 {
+    if 3 <= number {
+        return card;
+    }
     let mut codes = card.codes;
     codes[number] = code;
     let mut next = card;
@@ -36,7 +51,6 @@ pub fn with_code(card: Card, number: usize, code: Code) -> Card
 
 // The card with the verified mark of a code off.
 pub fn closed(card: Card, number: usize) -> Card
-    requires { ⌜ number < 3 ⌝ }
     ensures { λ r. ⌜ r ≡ closed card number ⌝ }
 {
     let mut code = code_of(card, number);
@@ -50,7 +64,7 @@ pub fn holding(d: &[u8]) -> Held
 {
     let kept = octets::part(d, 0, 256);
     Held {
-        bytes: octets::filled_256(kept),
+        bytes: arrays::filled_256(kept),
         len: kept.len(),
     }
 }
@@ -60,7 +74,7 @@ pub fn joining(d: &[u8]) -> Chain
 {
     let kept = octets::part(d, 0, 257);
     Chain {
-        bytes: octets::filled_257(kept),
+        bytes: arrays::filled_257(kept),
         len: kept.len(),
     }
 }

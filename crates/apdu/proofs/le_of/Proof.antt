@@ -2,9 +2,6 @@ use borrow.Author.Tests.{eq-eqb, ne-eqb}
 use borrow.Author.Needs.{needs}
 use Rattle.apdu.proofs.le_of.Statement.{statement}
 use Rattle.apdu.proofs.le_of.Tie as tie
-use Rattle.apdu.proofs.le_of.Reads as reads
-use Rattle.apdu.proofs.le_of.Lts as lts
-use Rattle.octets.proofs.wide.Reads as wide-reads
 
 returns : tie.Need-returns
 returns c = simp (eq-eqb _ _ (c .if1 .taken))

@@ -5,10 +5,6 @@ use denote.Ref.{now}
 use Rattle.apdu.proofs.Forms.{too-short, header-alone, le-alone, no-data, with-data, with-data-and-le, other-length}
 use Rattle.apdu.proofs.parse.Statement.{statement}
 use Rattle.apdu.proofs.parse.Tie as tie
-use Rattle.apdu.proofs.parse.Reads as reads
-use Rattle.apdu.proofs.parse.Lts as lts
-use Rattle.apdu.proofs.le_of.Reads as le-of-reads
-use Rattle.octets.proofs.wide.Reads as wide-reads
 
 returns : tie.Need-returns
 returns c = too-short (now (c .before .before .args .apdu)) (c .if1 .taken)

@@ -1,22 +1,12 @@
 use Rattle.card.proofs.Calls.{writtenStep, room-written, delivery-bad, delivery-short, delivery-unasked, delivered}
 use Rattle.rules.specs.Answers.{SessionStep, inSession}
 use mathlib.Core.Bool.{not}
-use Rattle.rules.specs.declared.Card.{Card}
 use Rattle.rules.specs.declared.Outcome.{Outcome}
-use Rattle.octets.specs.Octets.{Bytes}
 use denote.Ref.{now}
-use mathlib.Core.Path.{_≡_, refl, sym, ap, _∙_}
+use mathlib.Core.Path.{sym, ap, _∙_}
 use borrow.Author.Needs.{needs}
 use Rattle.card.proofs.delivery.Statement.{statement}
 use Rattle.card.proofs.delivery.Tie as tie
-use Rattle.card.proofs.delivery.Reads as reads
-use Rattle.card.proofs.delivery.Lts as lts
-use Rattle.answers.proofs.write.Reads as write-reads
-use Rattle.card.proofs.job_waits.Reads as job-waits-reads
-use Rattle.card.proofs.refused.Reads as refused-reads
-use Rattle.good_state.proofs.good.Reads as good-reads
-use Rattle.key_commands.proofs.deliver.Reads as deliver-reads
-use Rattle.state.proofs.with_session.Reads as with-session-reads
 
 good-requires : tie.Need-good-requires
 good-requires c κs = search needs
@@ -25,13 +15,19 @@ refused-requires : tie.Need-refused-requires
 refused-requires c κs = search needs
 
 returns : tie.Need-returns
-returns c = ap (λ (r : Outcome). (r, now (c .before .before .before .before .before .args .buffer))) (c .refused .ensures) ∙ delivery-bad (c .before .before .before .before .before .args .card) (now (c .before .before .before .before .before .args .result)) (now (c .before .before .before .before .before .args .buffer)) (ap not (sym (c .before .before .good2 .ensures)) ∙ c .before .if1 .taken)
+returns c =
+    let a = c .before .before .before .before .before .args in
+    ap (λ (r : Outcome). (r, now (a .buffer))) (c .refused .ensures)
+    ∙ delivery-bad (a .card) (now (a .result)) (now (a .buffer)) (ap not (sym (c .before .before .good2 .ensures)) ∙ c .before .if1 .taken)
 
 refused-requires-2 : tie.Need-refused-requires-2
 refused-requires-2 c κs = search needs
 
 returns-2 : tie.Need-returns-2
-returns-2 c = ap (λ (r : Outcome). (r, now (c .before .before .before .before .before .before .args .buffer))) (c .refused2 .ensures) ∙ delivery-short (c .before .before .before .before .before .before .args .card) (now (c .before .before .before .before .before .before .args .result)) (now (c .before .before .before .before .before .before .args .buffer)) (ap not (sym (c .before .before .before .good2 .ensures)) ∙ c .before .before .if1 .left) (c .before .if2 .taken)
+returns-2 c =
+    let a = c .before .before .before .before .before .before .args in
+    ap (λ (r : Outcome). (r, now (a .buffer))) (c .refused2 .ensures)
+    ∙ delivery-short (a .card) (now (a .result)) (now (a .buffer)) (ap not (sym (c .before .before .before .good2 .ensures)) ∙ c .before .before .if1 .left) (c .before .if2 .taken)
 
 job-waits-requires : tie.Need-job-waits-requires
 job-waits-requires c κs = search needs
@@ -40,7 +36,10 @@ refused-requires-3 : tie.Need-refused-requires-3
 refused-requires-3 c κs = search needs
 
 returns-3 : tie.Need-returns-3
-returns-3 c = ap (λ (r : Outcome). (r, now (c .before .before .before .before .before .before .before .before .args .buffer))) (c .refused3 .ensures) ∙ delivery-unasked (c .before .before .before .before .before .before .before .before .args .card) (now (c .before .before .before .before .before .before .before .before .args .result)) (now (c .before .before .before .before .before .before .before .before .args .buffer)) (ap not (sym (c .before .before .before .before .before .good2 .ensures)) ∙ c .before .before .before .before .if1 .left) (c .before .before .before .if2 .left) (ap not (sym (c .before .before .job-waits .ensures)) ∙ c .before .if3 .taken)
+returns-3 c =
+    let a = c .before .before .before .before .before .before .before .before .args in
+    ap (λ (r : Outcome). (r, now (a .buffer))) (c .refused3 .ensures)
+    ∙ delivery-unasked (a .card) (now (a .result)) (now (a .buffer)) (ap not (sym (c .before .before .before .before .before .good2 .ensures)) ∙ c .before .before .before .before .if1 .left) (c .before .before .before .if2 .left) (ap not (sym (c .before .before .job-waits .ensures)) ∙ c .before .if3 .taken)
 
 deliver-requires : tie.Need-deliver-requires
 deliver-requires c κs = search needs

@@ -2,13 +2,6 @@ use Rattle.rules.specs.Edge.{powerReset}
 use borrow.Author.Needs.{needs}
 use Rattle.card.proofs.power_reset.Statement.{statement}
 use Rattle.card.proofs.power_reset.Tie as tie
-use Rattle.card.proofs.power_reset.Reads as reads
-use Rattle.card.proofs.power_reset.Lts as lts
-use Rattle.card.proofs.refused.Reads as refused-reads
-use Rattle.good_state.proofs.good.Reads as good-reads
-use Rattle.state.proofs.closed.Reads as closed-reads
-use Rattle.state.proofs.new_session.Reads as new-session-reads
-use Rattle.state.proofs.with_session.Reads as with-session-reads
 
 good-requires : tie.Need-good-requires
 good-requires c κs = search needs

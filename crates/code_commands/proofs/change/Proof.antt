@@ -10,21 +10,10 @@ use Rattle.rules.specs.declared.Card.{Card}
 use Rattle.octets.specs.Octets.{Bytes}
 use Prim.Native.Nat.{ℕ}
 use denote.Ref.{now}
-use mathlib.Core.Path.{_≡_, refl, sym, ap, _∙_}
+use mathlib.Core.Path.{_≡_, sym, ap, _∙_}
 use borrow.Author.Needs.{needs}
 use Rattle.code_commands.proofs.change.Statement.{statement}
 use Rattle.code_commands.proofs.change.Tie as tie
-use Rattle.code_commands.proofs.change.Reads as reads
-use Rattle.code_commands.proofs.change.Lts as lts
-use Rattle.code_commands.proofs.disallowed.Reads as disallowed-reads
-use Rattle.code_commands.proofs.judge.Reads as judge-reads
-use Rattle.code_commands.proofs.new_value.Reads as new-value-reads
-use Rattle.code_commands.proofs.old_value.Reads as old-value-reads
-use Rattle.codes.proofs.allowed.Reads as allowed-reads
-use Rattle.codes.proofs.storing.Reads as storing-reads
-use Rattle.octets.proofs.wide.Reads as wide-reads
-use Rattle.state.proofs.code_of.Reads as code-of-reads
-use Rattle.state.proofs.with_code.Reads as with-code-reads
 
 wide-requires : tie.Need-wide-requires
 wide-requires c κs = search needs

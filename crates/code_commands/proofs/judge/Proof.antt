@@ -3,16 +3,10 @@ use Rattle.rules.specs.declared.Code.{Code}
 use Rattle.codes.specs.Presenting.{presentOf}
 use Rattle.codes.specs.declared.Verdict.the-variants.{NoTries, Wrong, Right}
 use denote.Ref.{now}
-use mathlib.Core.Path.{_≡_, refl, sym, ap, _∙_}
+use mathlib.Core.Path.{ap, _∙_}
 use borrow.Author.Needs.{needs}
 use Rattle.code_commands.proofs.judge.Statement.{statement}
 use Rattle.code_commands.proofs.judge.Tie as tie
-use Rattle.code_commands.proofs.judge.Reads as reads
-use Rattle.code_commands.proofs.judge.Lts as lts
-use Rattle.code_commands.proofs.wrong_status.Reads as wrong-status-reads
-use Rattle.codes.proofs.present.Reads as present-reads
-use Rattle.state.proofs.code_of.Reads as code-of-reads
-use Rattle.state.proofs.with_code.Reads as with-code-reads
 
 code-of-requires : tie.Need-code-of-requires
 code-of-requires c κs = search needs

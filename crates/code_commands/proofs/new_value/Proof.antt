@@ -4,9 +4,6 @@ use Rattle.octets.proofs.Strings.{take-rest}
 use borrow.Author.Needs.{needs}
 use Rattle.code_commands.proofs.new_value.Statement.{statement}
 use Rattle.code_commands.proofs.new_value.Tie as tie
-use Rattle.code_commands.proofs.new_value.Reads as reads
-use Rattle.code_commands.proofs.new_value.Lts as lts
-use Rattle.octets.proofs.part.Reads as part-reads
 
 part-requires : tie.Need-part-requires
 part-requires c κs = search needs

@@ -1,22 +1,14 @@
 use Rattle.rules.specs.CodeCommands.{resetRetry, unblockByVerifiedPuk, unblockByPresentedPuk}
 use Rattle.rules.specs.declared.Card.{Card}
-use mathlib.Core.Bool.{not}
 use Rattle.rules.specs.declared.Code.{Code}
 use Rattle.rules.specs.Codes.{codeOf}
-use Rattle.octets.specs.Octets.{Bytes}
 use Prim.Native.Nat.{ℕ}
 use denote.Ref.{now}
-use mathlib.Core.Path.{_≡_, refl, sym, ap, _∙_}
-use borrow.Author.Tests.{eq-eqb, ne-eqb, not-false}
+use mathlib.Core.Path.{_≡_, sym, ap, _∙_}
+use borrow.Author.Tests.{eq-eqb, ne-eqb}
 use borrow.Author.Needs.{needs}
 use Rattle.code_commands.proofs.reset_retry.Statement.{statement}
 use Rattle.code_commands.proofs.reset_retry.Tie as tie
-use Rattle.code_commands.proofs.reset_retry.Reads as reads
-use Rattle.code_commands.proofs.reset_retry.Lts as lts
-use Rattle.code_commands.proofs.unblock_by_presented_puk.Reads as unblock-by-presented-puk-reads
-use Rattle.code_commands.proofs.unblock_by_verified_puk.Reads as unblock-by-verified-puk-reads
-use Rattle.octets.proofs.wide.Reads as wide-reads
-use Rattle.state.proofs.code_of.Reads as code-of-reads
 
 wide-requires : tie.Need-wide-requires
 wide-requires c κs = search needs

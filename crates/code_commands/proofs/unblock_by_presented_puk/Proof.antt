@@ -8,24 +8,11 @@ use Rattle.rules.specs.Codes.{codeOf, allowed, storing}
 use Rattle.rules.specs.declared.Code.{Code}
 use Rattle.rules.specs.declared.Card.{Card}
 use Rattle.octets.specs.Octets.{Bytes}
-use Prim.Native.Nat.{ℕ}
 use denote.Ref.{now}
-use mathlib.Core.Path.{_≡_, refl, sym, ap, _∙_}
+use mathlib.Core.Path.{_≡_, sym, ap, _∙_}
 use borrow.Author.Needs.{needs}
 use Rattle.code_commands.proofs.unblock_by_presented_puk.Statement.{statement}
 use Rattle.code_commands.proofs.unblock_by_presented_puk.Tie as tie
-use Rattle.code_commands.proofs.unblock_by_presented_puk.Reads as reads
-use Rattle.code_commands.proofs.unblock_by_presented_puk.Lts as lts
-use Rattle.code_commands.proofs.disallowed.Reads as disallowed-reads
-use Rattle.code_commands.proofs.follow.Reads as follow-reads
-use Rattle.code_commands.proofs.judge.Reads as judge-reads
-use Rattle.code_commands.proofs.new_value.Reads as new-value-reads
-use Rattle.code_commands.proofs.old_value.Reads as old-value-reads
-use Rattle.code_commands.proofs.renewed.Reads as renewed-reads
-use Rattle.codes.proofs.allowed.Reads as allowed-reads
-use Rattle.codes.proofs.storing.Reads as storing-reads
-use Rattle.state.proofs.code_of.Reads as code-of-reads
-use Rattle.state.proofs.with_code.Reads as with-code-reads
 
 code-of-requires : tie.Need-code-of-requires
 code-of-requires c κs = search needs

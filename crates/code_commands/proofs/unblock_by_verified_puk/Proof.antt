@@ -2,12 +2,6 @@ use Rattle.rules.specs.CodeCommands.{unblockByVerifiedPuk}
 use borrow.Author.Needs.{needs}
 use Rattle.code_commands.proofs.unblock_by_verified_puk.Statement.{statement}
 use Rattle.code_commands.proofs.unblock_by_verified_puk.Tie as tie
-use Rattle.code_commands.proofs.unblock_by_verified_puk.Reads as reads
-use Rattle.code_commands.proofs.unblock_by_verified_puk.Lts as lts
-use Rattle.code_commands.proofs.renewed.Reads as renewed-reads
-use Rattle.state.proofs.closed.Reads as closed-reads
-use Rattle.state.proofs.code_of.Reads as code-of-reads
-use Rattle.state.proofs.with_code.Reads as with-code-reads
 
 code-of-requires : tie.Need-code-of-requires
 code-of-requires c κs = search needs

@@ -2,15 +2,10 @@ use Rattle.code_commands.proofs.Laws.{verified-law}
 use Rattle.code_commands.specs.Judging.{judgementOf}
 use Prim.Native.Nat.{ℕ}
 use denote.Ref.{now}
-use mathlib.Core.Path.{_≡_, refl, sym, ap, _∙_}
+use mathlib.Core.Path.{ap, _∙_}
 use borrow.Author.Needs.{needs}
 use Rattle.code_commands.proofs.verify.Statement.{statement}
 use Rattle.code_commands.proofs.verify.Tie as tie
-use Rattle.code_commands.proofs.verify.Reads as reads
-use Rattle.code_commands.proofs.verify.Lts as lts
-use Rattle.code_commands.proofs.follow.Reads as follow-reads
-use Rattle.code_commands.proofs.judge.Reads as judge-reads
-use Rattle.octets.proofs.wide.Reads as wide-reads
 
 wide-requires : tie.Need-wide-requires
 wide-requires c κs = search needs

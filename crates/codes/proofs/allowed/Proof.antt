@@ -2,10 +2,6 @@ use Rattle.rules.specs.Codes.{allowed}
 use borrow.Author.Needs.{needs}
 use Rattle.codes.proofs.allowed.Statement.{statement}
 use Rattle.codes.proofs.allowed.Tie as tie
-use Rattle.codes.proofs.allowed.Reads as reads
-use Rattle.codes.proofs.allowed.Lts as lts
-use Rattle.octets.proofs.all_digits.Reads as all-digits-reads
-use Rattle.rules.proofs.Code.least.Reads as least-reads
 
 all-digits-requires : tie.Need-all-digits-requires
 all-digits-requires c κs = search needs

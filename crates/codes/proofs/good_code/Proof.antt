@@ -3,12 +3,6 @@ use Rattle.rules.specs.State.{goodCode}
 use borrow.Author.Needs.{needs}
 use Rattle.codes.proofs.good_code.Statement.{statement}
 use Rattle.codes.proofs.good_code.Tie as tie
-use Rattle.codes.proofs.good_code.Reads as reads
-use Rattle.codes.proofs.good_code.Lts as lts
-use Rattle.codes.proofs.good_room.Reads as good-room-reads
-use Rattle.octets.proofs.all_digits.Reads as all-digits-reads
-use Rattle.octets.proofs.part.Reads as part-reads
-use Rattle.rules.proofs.Code.least.Reads as least-reads
 
 slice-aggregate-good-room : tie.Need-slice-aggregate-good-room
 slice-aggregate-good-room c = search needs

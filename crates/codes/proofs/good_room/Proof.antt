@@ -8,10 +8,6 @@ use Rattle.rules.specs.State.{goodRoom}
 use borrow.Author.Needs.{needs}
 use Rattle.codes.proofs.good_room.Statement.{statement}
 use Rattle.codes.proofs.good_room.Tie as tie
-use Rattle.codes.proofs.good_room.Reads as reads
-use Rattle.codes.proofs.good_room.Lts as lts
-use Rattle.octets.proofs.all_zero.Reads as all-zero-reads
-use Rattle.octets.proofs.part.Reads as part-reads
 
 part-requires : tie.Need-part-requires
 part-requires c κs = search needs

@@ -1,12 +1,8 @@
-use borrow.Author.Tests.{eq-eqb, ne-eqb, le-leb, lt-leb}
+use borrow.Author.Tests.{eq-eqb, ne-eqb}
 use Rattle.codes.specs.Presenting.{presentOf}
 use borrow.Author.Needs.{needs}
 use Rattle.codes.proofs.present.Statement.{statement}
 use Rattle.codes.proofs.present.Tie as tie
-use Rattle.codes.proofs.present.Reads as reads
-use Rattle.codes.proofs.present.Lts as lts
-use Rattle.octets.proofs.equal.Reads as equal-reads
-use Rattle.octets.proofs.part.Reads as part-reads
 
 returns : tie.Need-returns
 unfolding presentOf

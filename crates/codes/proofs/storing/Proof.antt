@@ -1,16 +1,11 @@
 use mathlib.Core.Path.{_≡_}
 use denote.Ref.{now}
-use lib.ListN.{length, take, drop}
+use lib.ListN.{take}
 use Rattle.octets.specs.Octets.{Bytes}
 use Rattle.octets.proofs.Strings.{take-twice}
-use Rattle.rules.specs.Codes.{storing}
 use borrow.Author.Needs.{needs}
 use Rattle.codes.proofs.storing.Statement.{statement}
 use Rattle.codes.proofs.storing.Tie as tie
-use Rattle.codes.proofs.storing.Reads as reads
-use Rattle.codes.proofs.storing.Lts as lts
-use Rattle.octets.proofs.filled_12.Reads as filled-12-reads
-use Rattle.octets.proofs.part.Reads as part-reads
 
 part-requires : tie.Need-part-requires
 part-requires c κs = search needs

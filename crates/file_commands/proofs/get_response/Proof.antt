@@ -1,11 +1,11 @@
 use mathlib.Core.Path.{_≡_, ap, _∙_}
 use Prim.Native.Nat.{_≤_}
-use native.Mathlib.Omega.{arith}
 use lib.ListN.{length, take, drop}
 use lib.Seq.{take-all}
 use borrow.Author.Needs.{needs}
 use denote.Ref.{now}
 use Rattle.octets.specs.Octets.{Bytes}
+use Rattle.octets.proofs.Chains.{front-short}
 use Rattle.octets.proofs.Cutting.{uncut-front, uncut-rest}
 use Rattle.rules.specs.declared.Session.{Session}
 use Rattle.rules.specs.Session.{heldBytes}
@@ -43,7 +43,7 @@ returns-2 c =
     let a = c .before .before .before .before .before .before .before .before .args in
     let d : Bytes = now (c .before .before .before .before .part .result) in
     let held : d ≡ heldBytes (a .s) = c .before .before .before .before .part .ensures in
-    let short : length d ≤ 256 = omega (arith, ap length held, c .before .before .before .before .before .before .before .before .pre) in
+    let short : length d ≤ 256 = front-short 256 (a .s .held .len) (a .s .held .bytes) (slice-aggregate-part (c .before .before .before .before .before)) held in
     c .session-data .ensures ∙ simp (c .before .drop-held2 .ensures, take-all 256 d short) (all-given (a .s) (a .h) d held (c .before .before .before .if1 .left) (c .before .before .if2 .taken))
 
 part-requires-2 : tie.Need-part-requires-2
@@ -52,13 +52,8 @@ part-requires-2 c κs = search needs
 with-held-requires : tie.Need-with-held-requires
 with-held-requires c κs = search needs
 
-sub-more-bytes : tie.Need-sub-more-bytes
-sub-more-bytes c = search needs
-
 more-bytes-requires : tie.Need-more-bytes-requires
-more-bytes-requires c κs =
-    let held : now (c .before .before .before .before .part .result) ≡ heldBytes (c .before .before .before .before .before .before .before .before .args .s) = c .before .before .before .before .part .ensures in
-    omega (arith, ap length held, c .before .before .before .before .before .before .before .before .pre)
+more-bytes-requires c κs = search needs
 
 part-requires-3 : tie.Need-part-requires-3
 part-requires-3 c κs = search needs
@@ -71,7 +66,7 @@ returns-3 c =
     let a = c .before .before .before .before .before .before .before .before .before .before .before .args in
     let d : Bytes = now (c .before .before .before .before .before .before .before .part .result) in
     let held : d ≡ heldBytes (a .s) = c .before .before .before .before .before .before .before .part .ensures in
-    let short : length d ≤ 256 = omega (arith, ap length held, c .before .before .before .before .before .before .before .before .before .before .before .pre) in
+    let short : length d ≤ 256 = front-short 256 (a .s .held .len) (a .s .held .bytes) (slice-aggregate-part (c .before .before .before .before .before .before .before .before)) held in
     let rest : take 256 (now (c .before .before .before .before .part2 .result)) ≡ drop (a .h .le) d = ap (take 256) (c .before .before .before .before .part2 .ensures) ∙ uncut-rest 256 d short (a .h .le) in
     let first : take 256 (now (c .before .part3 .result)) ≡ take (a .h .le) d = ap (take 256) (c .before .part3 .ensures) ∙ uncut-front 256 d short (a .h .le) in
     c .session-data2 .ensures ∙ simp (c .before .before .before .with-held .ensures, c .before .before .more-bytes .ensures, rest, first) (first-given (a .s) (a .h) d held (c .before .before .before .before .before .before .if1 .left) (c .before .before .before .before .before .if2 .left))
@@ -90,7 +85,6 @@ get-response-spec =
     returns-2
     part-requires-2
     with-held-requires
-    sub-more-bytes
     more-bytes-requires
     part-requires-3
     session-data-requires-2

@@ -1,5 +1,10 @@
 use mathlib.Core.Path.{ap, _∙_}
-use lib.ListN.{take}
+use Prim.Native.Nat.{_≤_}
+use native.Mathlib.Omega.{arith}
+use lib.ListN.{length}
+use lib.Seq.{take-all}
+use denote.Ref.{now}
+use Rattle.octets.proofs.Chains.{front-short}
 use borrow.Author.Needs.{needs}
 use Rattle.octets.specs.Octets.{Bytes}
 use Rattle.rules.specs.Answers.{give}
@@ -16,7 +21,11 @@ give-requires : tie.Need-give-requires
 give-requires c κs = search needs
 
 returns : tie.Need-returns
-returns c = c .give .ensures ∙ ap (λ (d : Bytes). give (c .before .before .before .before .args .s) (c .before .before .before .before .args .le) (take 256 d)) (c .before .part .ensures)
+returns c =
+    let a = c .before .before .before .before .args in
+    let d : Bytes = now (c .before .part .result) in
+    let short : length d ≤ 64 = front-short 64 (a .stored .len) (a .stored .bytes) (slice-aggregate-part (c .before .before)) (c .before .part .ensures) in
+    c .give .ensures ∙ ap (give (a .s) (a .le)) (take-all 256 d (omega (arith, short)) ∙ c .before .part .ensures)
 
 pub give-contents-spec : {M : Type 1} → statement M
 give-contents-spec = tie.close (tie.spec slice-aggregate-part part-requires give-requires returns)

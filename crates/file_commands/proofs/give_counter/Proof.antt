@@ -1,12 +1,11 @@
-use mathlib.Core.Path.{_≡_, ap, _∙_}
+use mathlib.Core.Path.{_≡_, sym, ap, _∙_}
 use lib.ListN.{take}
 use borrow.Author.Needs.{needs}
-use Rattle.octets.specs.Octets.{Bytes}
 use Rattle.rules.specs.declared.Code.{Code}
 use Rattle.rules.specs.Codes.{codeOf}
 use Rattle.rules.specs.Files.{pukRecord, pinRecord, counterRecord}
 use Rattle.rules.specs.Answers.{give}
-use Rattle.file_commands.proofs.Laws.{puk-shown, pin-shown}
+use Rattle.file_commands.proofs.Laws.{puk-uncut, pin-uncut, puk-shown, pin-shown}
 use Rattle.file_commands.proofs.give_counter.Statement.{statement}
 use Rattle.file_commands.proofs.give_counter.Tie as tie
 
@@ -26,7 +25,8 @@ returns : tie.Need-returns
 returns c =
     let a = c .before .before .before .before .before .args in
     let shown : c .before .before .puk-record .result ≡ counterRecord (a .card) (a .n) = c .before .before .puk-record .ensures ∙ ap (λ (v : Code). pukRecord (v .tries)) (c .before .before .before .code-of .ensures) ∙ puk-shown (a .card) (a .n) (c .before .before .before .before .if1 .taken) in
-    c .give .ensures ∙ ap (λ (d : Bytes). give (a .s) (a .le) (take 256 d)) shown
+    let uncut = ap (take 256) (c .before .before .puk-record .ensures) ∙ puk-uncut (c .before .before .before .code-of .result .tries) ∙ sym (c .before .before .puk-record .ensures) in
+    c .give .ensures ∙ ap (give (a .s) (a .le)) (uncut ∙ shown)
 
 wide-requires : tie.Need-wide-requires
 wide-requires c κs = search needs
@@ -48,7 +48,8 @@ returns-2 c =
     let a = c .before .before .before .before .before .before .args in
     let pin : c .before .before .before .code-of2 .result ≡ codeOf (a .card) (a .n) = c .before .before .before .code-of2 .ensures ∙ ap (codeOf (a .card)) (c .before .before .before .before .wide .ensures) in
     let shown : c .before .before .pin-record .result ≡ counterRecord (a .card) (a .n) = c .before .before .pin-record .ensures ∙ ap (λ (v : Code). pinRecord (v .tries)) pin ∙ pin-shown (a .card) (a .n) (c .before .before .before .before .before .if1 .left) in
-    c .give2 .ensures ∙ ap (λ (d : Bytes). give (a .s) (a .le) (take 256 d)) shown
+    let uncut = ap (take 256) (c .before .before .pin-record .ensures) ∙ pin-uncut (c .before .before .before .code-of2 .result .tries) ∙ sym (c .before .before .pin-record .ensures) in
+    c .give2 .ensures ∙ ap (give (a .s) (a .le)) (uncut ∙ shown)
 
 pub give-counter-spec : {M : Type 1} → statement M
 give-counter-spec =

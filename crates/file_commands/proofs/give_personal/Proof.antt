@@ -1,17 +1,14 @@
 use mathlib.Core.Path.{ap, _∙_}
 use Prim.Native.Nat.{ℕ}
-use lib.ListN.{take}
+use lib.ListN.{take, getD}
 use borrow.Author.Needs.{needs}
-use Rattle.rules.specs.Files.{personalRecord}
+use Rattle.rules.specs.Files.{noRecord, personalRecord}
 use Rattle.rules.specs.Answers.{give}
 use Rattle.file_commands.proofs.give_personal.Statement.{statement}
 use Rattle.file_commands.proofs.give_personal.Tie as tie
 
-wide-requires : tie.Need-wide-requires
-wide-requires c κs = search needs
-
-sub-at : tie.Need-sub-at
-sub-at c = search needs
+place-requires : tie.Need-place-requires
+place-requires c κs = search needs
 
 mul-stored : tie.Need-mul-stored
 mul-stored c = search needs
@@ -24,14 +21,13 @@ give-contents-requires c κs = search needs
 
 returns : tie.Need-returns
 unfolding personalRecord
-returns c = c .give-contents .ensures ∙ ap (λ (k : ℕ). give (c .before .before .before .args .s) (c .before .before .before .args .le) (take 256 (personalRecord (c .before .before .before .args .t1) k))) (c .before .before .wide .ensures)
+returns c = c .give-contents .ensures ∙ ap (λ (k : ℕ). give (c .before .before .before .args .s) (c .before .before .before .args .le) (take (getD (c .before .before .before .args .t1 .personal) k noRecord .len) (getD (c .before .before .before .args .t1 .personal) k noRecord .bytes))) (c .before .before .place .ensures)
 
 pub give-personal-spec : {M : Type 1} → statement M
 give-personal-spec =
     tie.close
     (tie.spec
-    wide-requires
-    sub-at
+    place-requires
     mul-stored
     element-copy-out-stored
     give-contents-requires

@@ -6,10 +6,10 @@ use lib.ListN.{take, drop}
 use borrow.Author.Needs.{needs}
 use denote.Ref.{now}
 use Rattle.octets.specs.Octets.{Bytes, word}
-use Rattle.octets.proofs.Cutting.{uncut-first}
+use Rattle.answers.specs.Reach.{leInReach}
 use Rattle.rules.specs.Files.{certificateOf}
 use Rattle.rules.specs.Answers.{response}
-use Rattle.file_commands.proofs.Laws.{no-binary-file, not-as-bytes, offset-past-end, part-read}
+use Rattle.file_commands.proofs.Laws.{take-in-reach, no-binary-file, not-as-bytes, offset-past-end, part-read}
 use Rattle.file_commands.proofs.read_binary.Statement.{statement}
 use Rattle.file_commands.proofs.read_binary.Tie as tie
 
@@ -25,7 +25,7 @@ session-status-requires c κs = search needs
 returns : tie.Need-returns
 returns c =
     let a = c .before .before .before .before .before .before .args in
-    c .session-status .ensures ∙ no-binary-file (a .s) (a .h) (now (a .authentication)) (now (a .signature)) (c .before .if1 .taken)
+    c .session-status .ensures ∙ no-binary-file (a .s) (leInReach (a .h)) (now (a .authentication)) (now (a .signature)) (c .before .if1 .taken)
 
 certificate-file-requires : tie.Need-certificate-file-requires
 certificate-file-requires c κs = search needs
@@ -37,7 +37,7 @@ returns-2 : tie.Need-returns-2
 returns-2 c =
     let a = c .before .before .before .before .before .before .before .before .args in
     c .session-status2 .ensures
-    ∙ not-as-bytes (a .s) (a .h) (now (a .authentication)) (now (a .signature)) (c .before .before .before .if1 .left) (ap not (sym (c .before .before .certificate-file .ensures)) ∙ c .before .if2 .taken)
+    ∙ not-as-bytes (a .s) (leInReach (a .h)) (now (a .authentication)) (now (a .signature)) (c .before .before .before .if1 .left) (ap not (sym (c .before .before .certificate-file .ensures)) ∙ c .before .if2 .taken)
 
 certificate-length-requires : tie.Need-certificate-length-requires
 certificate-length-requires c κs = search needs
@@ -49,7 +49,7 @@ returns-3 : tie.Need-returns-3
 returns-3 c =
     let a = c .before .before .before .before .before .before .before .before .before .before .args in
     c .session-status3 .ensures
-    ∙ offset-past-end (a .s) (a .h) (now (a .authentication)) (now (a .signature)) (c .before .before .before .before .before .if1 .left) (ap not (sym (c .before .before .before .before .certificate-file .ensures)) ∙ c .before .before .before .if2 .left)
+    ∙ offset-past-end (a .s) (leInReach (a .h)) (now (a .authentication)) (now (a .signature)) (c .before .before .before .before .before .if1 .left) (ap not (sym (c .before .before .before .before .certificate-file .ensures)) ∙ c .before .before .before .if2 .left)
     (omega (arith, c .before .before .certificate-length .ensures, c .before .before .before .before .before .before .word .ensures, c .before .if3 .taken))
 
 certificate-part-requires : tie.Need-certificate-part-requires
@@ -66,8 +66,8 @@ returns-4 c =
     let offset : ℕ = word (a .h .p1) (a .h .p2) in
     let part : now (c .before .certificate-part .result) ≡ take le (drop offset certificate) = c .before .certificate-part .ensures ∙ ap (λ (k : ℕ). take le (drop k certificate)) (c .before .before .before .before .before .before .before .word .ensures) in
     c .session-data .ensures
-    ∙ ap (λ (d : Bytes). record { session = a .s; answer = response d 0x9000 }) (ap (take 256) part ∙ uncut-first 256 le (drop offset certificate) (c .before .before .before .before .before .before .before .before .before .before .before .pre))
-    ∙ part-read (a .s) (a .h) (now (a .authentication)) (now (a .signature)) (c .before .before .before .before .before .before .if1 .left) (ap not (sym (c .before .before .before .before .before .certificate-file .ensures)) ∙ c .before .before .before .before .if2 .left)
+    ∙ ap (λ (d : Bytes). record { session = a .s; answer = response d 0x9000 }) (ap (take 256) part ∙ take-in-reach le (drop offset certificate))
+    ∙ part-read (a .s) (leInReach (a .h)) (now (a .authentication)) (now (a .signature)) (c .before .before .before .before .before .before .if1 .left) (ap not (sym (c .before .before .before .before .before .certificate-file .ensures)) ∙ c .before .before .before .before .if2 .left)
     (omega (arith, c .before .before .before .certificate-length .ensures, c .before .before .before .before .before .before .before .word .ensures, c .before .before .if3 .left))
 
 pub read-binary-spec : {M : Type 1} → statement M

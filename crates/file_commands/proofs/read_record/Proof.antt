@@ -1,11 +1,8 @@
-use mathlib.Core.Path.{sym, ap, _∙_}
+use mathlib.Core.Path.{sym, _∙_}
 use Prim.Native.Nat.{ℕ, _≤_}
 use native.Mathlib.Omega.{arith}
-use lib.Seq.{take-all}
 use borrow.Author.Needs.{needs}
-use Rattle.rules.specs.Files.{recordCount, recordOf}
-use Rattle.rules.specs.Answers.{give}
-use Rattle.rules.proofs.KeepingFiles.{record-fits}
+use Rattle.rules.specs.Files.{recordCount}
 use Rattle.file_commands.proofs.Laws.{no-record-file, not-by-record, past-last-record, record-given}
 use Rattle.file_commands.proofs.read_record.Statement.{statement}
 use Rattle.file_commands.proofs.read_record.Tie as tie
@@ -49,9 +46,7 @@ returns-4 c =
     let a = c .before .before .before .before .before .before .before .before .args in
     let file : ℕ = a .s .selection .file in
     let last : a .h .p1 ≤ recordCount file = omega (arith, c .before .before .before .record-count .ensures, c .before .if3 .left) in
-    let whole = take-all 256 (recordOf (a .card) file (a .h .p1)) (record-fits (a .card) (c .before .before .before .before .before .before .before .before .pre .0) file (a .h .p1) last) in
-    c .give-record .ensures ∙ ap (give (a .s) (a .h .le)) whole
-    ∙ record-given (a .card) (a .s) (a .h) (c .before .before .before .before .before .before .if1 .left) (sym (c .before .before .before .before .before .certificate-file .ensures) ∙ c .before .before .before .before .if2 .left) last
+    c .give-record .ensures ∙ record-given (a .card) (a .s) (a .h) (c .before .before .before .before .before .before .if1 .left) (sym (c .before .before .before .before .before .certificate-file .ensures) ∙ c .before .before .before .before .if2 .left) last
 
 pub read-record-spec : {M : Type 1} → statement M
 read-record-spec =

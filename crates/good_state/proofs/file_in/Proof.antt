@@ -3,8 +3,6 @@ use borrow.Author.Tests.{eq-eqb, ne-eqb}
 use Rattle.rules.specs.Files.{filesIn}
 use Rattle.good_state.proofs.file_in.Statement.{statement}
 use Rattle.good_state.proofs.file_in.Tie as tie
-use Rattle.good_state.proofs.file_in.Reads as reads
-use Rattle.good_state.proofs.file_in.Lts as lts
 
 returns : tie.Need-returns
 unfolding filesIn

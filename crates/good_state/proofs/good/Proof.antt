@@ -3,27 +3,21 @@ use Rattle.rules.specs.State.{good}
 use borrow.Author.Needs.{needs}
 use Rattle.good_state.proofs.good.Statement.{statement}
 use Rattle.good_state.proofs.good.Tie as tie
-use Rattle.good_state.proofs.good.Reads as reads
-use Rattle.good_state.proofs.good.Lts as lts
-use Rattle.codes.proofs.good_code.Reads as good-code-reads
-use Rattle.good_state.proofs.good_records.Reads as good-records-reads
-use Rattle.good_state.proofs.good_references.Reads as good-references-reads
-use Rattle.good_state.proofs.good_session.Reads as good-session-reads
 
-element-copy-out-good-code : tie.Need-element-copy-out-good-code
-element-copy-out-good-code c = search needs
+code-of-requires : tie.Need-code-of-requires
+code-of-requires c κs = search needs
 
 good-code-requires : tie.Need-good-code-requires
 good-code-requires c κs = search needs
 
-element-copy-out-good-code-2 : tie.Need-element-copy-out-good-code-2
-element-copy-out-good-code-2 c = search needs
+code-of-requires-2 : tie.Need-code-of-requires-2
+code-of-requires-2 c κs = search needs
 
 good-code-requires-2 : tie.Need-good-code-requires-2
 good-code-requires-2 c κs = search needs
 
-element-copy-out-good-code-3 : tie.Need-element-copy-out-good-code-3
-element-copy-out-good-code-3 c = search needs
+code-of-requires-3 : tie.Need-code-of-requires-3
+code-of-requires-3 c κs = search needs
 
 good-code-requires-3 : tie.Need-good-code-requires-3
 good-code-requires-3 c κs = search needs
@@ -39,17 +33,29 @@ good-session-requires c κs = search needs
 
 returns : tie.Need-returns
 unfolding good
-returns c = simp (c .before .before .before .before .before .before .before .before .before .before .good-code .ensures, c .before .before .before .before .before .before .before .before .good-code2 .ensures, c .before .before .before .before .before .before .good-code3 .ensures, c .before .before .before .before .good-references .ensures, c .before .before .good-records .ensures, c .good-session .ensures, and-true)
+returns c =
+    simp (
+      c .before .before .before .before .before .before .before .before .before .before .before .before .code-of .ensures,
+      c .before .before .before .before .before .before .before .before .before .before .code-of2 .ensures,
+      c .before .before .before .before .before .before .before .before .code-of3 .ensures,
+      c .before .before .before .before .before .before .before .before .before .before .before .good-code .ensures,
+      c .before .before .before .before .before .before .before .before .before .good-code2 .ensures,
+      c .before .before .before .before .before .before .before .good-code3 .ensures,
+      c .before .before .before .before .good-references .ensures,
+      c .before .before .good-records .ensures,
+      c .good-session .ensures,
+      and-true,
+    )
 
 pub good-spec : {M : Type 1} → statement M
 good-spec =
     tie.close
     (tie.spec
-    element-copy-out-good-code
+    code-of-requires
     good-code-requires
-    element-copy-out-good-code-2
+    code-of-requires-2
     good-code-requires-2
-    element-copy-out-good-code-3
+    code-of-requires-3
     good-code-requires-3
     good-references-requires
     good-records-requires

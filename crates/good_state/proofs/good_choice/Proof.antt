@@ -1,9 +1,6 @@
 use borrow.Author.Needs.{needs}
 use Rattle.good_state.proofs.good_choice.Statement.{statement}
 use Rattle.good_state.proofs.good_choice.Tie as tie
-use Rattle.good_state.proofs.good_choice.Reads as reads
-use Rattle.good_state.proofs.good_choice.Lts as lts
-use Rattle.keys.proofs.usable.Reads as usable-reads
 
 usable-requires : tie.Need-usable-requires
 usable-requires c κs = search needs

@@ -3,10 +3,6 @@ use Rattle.rules.specs.State.{goodEnvironment}
 use borrow.Author.Needs.{needs}
 use Rattle.good_state.proofs.good_environment.Statement.{statement}
 use Rattle.good_state.proofs.good_environment.Tie as tie
-use Rattle.good_state.proofs.good_environment.Reads as reads
-use Rattle.good_state.proofs.good_environment.Lts as lts
-use Rattle.good_state.proofs.good_choice.Reads as good-choice-reads
-use Rattle.good_state.proofs.three.Reads as three-reads
 
 slice-aggregate-three : tie.Need-slice-aggregate-three
 slice-aggregate-three c = search needs

@@ -4,9 +4,6 @@ use Rattle.rules.specs.State.{goodJob}
 use borrow.Author.Needs.{needs}
 use Rattle.good_state.proofs.good_job.Statement.{statement}
 use Rattle.good_state.proofs.good_job.Tie as tie
-use Rattle.good_state.proofs.good_job.Reads as reads
-use Rattle.good_state.proofs.good_job.Lts as lts
-use Rattle.keys.proofs.usable.Reads as usable-reads
 
 returns : tie.Need-returns
 unfolding goodJob

@@ -2,13 +2,10 @@ use native.Mathlib.Numerals.{add-one}
 use borrow.Author.Needs.{needs}
 use Rattle.rules.specs.State.{goodRecords}
 use Prim.Native.Nat.{ℕ, _≤_, _-_}
-use mathlib.Core.Path.{_≡_, refl, sym, ap, _∙_}
+use mathlib.Core.Path.{_≡_, refl, ap, _∙_}
 use native.Mathlib.Omega.{arith}
 use Rattle.good_state.proofs.good_records.Statement.{statement}
 use Rattle.good_state.proofs.good_records.Tie as tie
-use Rattle.good_state.proofs.good_records.Reads as reads
-use Rattle.good_state.proofs.good_records.Lts as lts
-use Rattle.good_state.proofs.good_record.Reads as good-record-reads
 
 abbrev Inv-loop : tie.InvT-loop
 Inv-loop personal i₀ all₀ i all = (i ≤ 16) × (all ≡ goodRecords i personal)

@@ -3,11 +3,6 @@ use Rattle.rules.specs.State.{goodReferences}
 use borrow.Author.Needs.{needs}
 use Rattle.good_state.proofs.good_references.Statement.{statement}
 use Rattle.good_state.proofs.good_references.Tie as tie
-use Rattle.good_state.proofs.good_references.Reads as reads
-use Rattle.good_state.proofs.good_references.Lts as lts
-use Rattle.good_state.proofs.sized.Reads as sized-reads
-use Rattle.keys.proofs.active_key.Reads as active-key-reads
-use Rattle.keys.proofs.usable.Reads as usable-reads
 
 slice-aggregate-sized : tie.Need-slice-aggregate-sized
 slice-aggregate-sized c = search needs

@@ -3,9 +3,6 @@ use Rattle.rules.specs.State.{goodSelection}
 use borrow.Author.Needs.{needs}
 use Rattle.good_state.proofs.good_selection.Statement.{statement}
 use Rattle.good_state.proofs.good_selection.Tie as tie
-use Rattle.good_state.proofs.good_selection.Reads as reads
-use Rattle.good_state.proofs.good_selection.Lts as lts
-use Rattle.good_state.proofs.file_in.Reads as file-in-reads
 
 file-in-requires : tie.Need-file-in-requires
 file-in-requires c κs = search needs

@@ -3,12 +3,6 @@ use Rattle.rules.specs.State.{goodSession}
 use borrow.Author.Needs.{needs}
 use Rattle.good_state.proofs.good_session.Statement.{statement}
 use Rattle.good_state.proofs.good_session.Tie as tie
-use Rattle.good_state.proofs.good_session.Reads as reads
-use Rattle.good_state.proofs.good_session.Lts as lts
-use Rattle.codes.proofs.good_room.Reads as good-room-reads
-use Rattle.good_state.proofs.good_environment.Reads as good-environment-reads
-use Rattle.good_state.proofs.good_job.Reads as good-job-reads
-use Rattle.good_state.proofs.good_selection.Reads as good-selection-reads
 
 slice-aggregate-good-room : tie.Need-slice-aggregate-good-room
 slice-aggregate-good-room c = search needs

@@ -20,7 +20,9 @@ copy-at-requires : tie.Need-copy-at-requires
 copy-at-requires c κs = search needs
 
 returns : tie.Need-returns
-returns c = front-then 257 (c .before .before .before .before .before .before .before .before .before .args .s .chain .len) (c .before .before .before .before .before .before .before .before .before .args .s .chain .bytes) (slice-aggregate-part (c .before .before .before .before .before)) (c .before .before .before .before .part .ensures) (now (c .before .before .before .before .before .before .before .before .before .args .d)) (c .before .before .before .filled-257 .ensures) (c .before .copy-at .ensures)
+returns c =
+    let a = c .before .before .before .before .before .before .before .before .before .args in
+    front-then 257 (a .s .chain .len) (a .s .chain .bytes) (slice-aggregate-part (c .before .before .before .before .before)) (c .before .before .before .before .part .ensures) (now (a .d)) (c .before .before .before .filled-257 .ensures) (c .before .copy-at .ensures)
 
 pub joined-spec : {M : Type 1} → statement M
 joined-spec =

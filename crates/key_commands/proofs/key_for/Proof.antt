@@ -1,5 +1,5 @@
 use mathlib.Core.Path.{_∙_}
-use Rattle.key_commands.proofs.Environments.{chosen-key, active-key}
+use Rattle.key_commands.proofs.Choices.{chosen-key, active-key}
 use borrow.Author.Needs.{needs}
 use Rattle.key_commands.proofs.key_for.Statement.{statement}
 use Rattle.key_commands.proofs.key_for.Tie as tie
@@ -23,7 +23,10 @@ active-key-requires : tie.Need-active-key-requires
 active-key-requires c κs = search needs
 
 returns-2 : tie.Need-returns-2
-returns-2 c = c .active-key .ensures ∙ active-key (c .before .before .before .before .before .before .args .card) (c .before .before .before .before .before .before .args .s) (c .before .before .before .before .before .before .args .kind) (c .before .before .before .wide .ensures) (c .before .before .if1 .left)
+returns-2 c =
+    let a = c .before .before .before .before .before .before .args in
+    c .active-key .ensures
+    ∙ active-key (a .card) (a .s) (a .kind) (c .before .before .before .wide .ensures) (c .before .before .if1 .left)
 
 pub key-for-spec : {M : Type 1} → statement M
 key-for-spec =

@@ -3,9 +3,6 @@ use Rattle.rules.specs.Keys.{activeKey}
 use borrow.Author.Needs.{needs}
 use Rattle.keys.proofs.active_key.Statement.{statement}
 use Rattle.keys.proofs.active_key.Tie as tie
-use Rattle.keys.proofs.active_key.Reads as reads
-use Rattle.keys.proofs.active_key.Lts as lts
-use Rattle.octets.proofs.word.Reads as word-reads
 
 array-read-word : tie.Need-array-read-word
 array-read-word c = search needs

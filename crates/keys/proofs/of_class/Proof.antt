@@ -3,10 +3,6 @@ use Rattle.rules.specs.Keys.{ofClass}
 use borrow.Author.Needs.{needs}
 use Rattle.keys.proofs.of_class.Statement.{statement}
 use Rattle.keys.proofs.of_class.Tie as tie
-use Rattle.keys.proofs.of_class.Reads as reads
-use Rattle.keys.proofs.of_class.Lts as lts
-use Rattle.keys.proofs.is_authentication_key.Reads as is-authentication-key-reads
-use Rattle.keys.proofs.is_signature_key.Reads as is-signature-key-reads
 
 is-signature-key-requires : tie.Need-is-signature-key-requires
 is-signature-key-requires c κs = search needs

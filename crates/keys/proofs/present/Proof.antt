@@ -3,8 +3,6 @@ use Rattle.rules.specs.Keys.{present}
 use borrow.Author.Needs.{needs}
 use Rattle.keys.proofs.present.Statement.{statement}
 use Rattle.keys.proofs.present.Tie as tie
-use Rattle.keys.proofs.present.Reads as reads
-use Rattle.keys.proofs.present.Lts as lts
 
 array-read-result : tie.Need-array-read-result
 array-read-result c = search needs

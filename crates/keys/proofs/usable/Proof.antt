@@ -1,10 +1,6 @@
 use borrow.Author.Needs.{needs}
 use Rattle.keys.proofs.usable.Statement.{statement}
 use Rattle.keys.proofs.usable.Tie as tie
-use Rattle.keys.proofs.usable.Reads as reads
-use Rattle.keys.proofs.usable.Lts as lts
-use Rattle.keys.proofs.of_class.Reads as of-class-reads
-use Rattle.keys.proofs.present.Reads as present-reads
 
 present-requires : tie.Need-present-requires
 present-requires c κs = search needs

@@ -1,21 +1,13 @@
-use Rattle.session_steps.proofs.Laws.{give-all, give-held, cut-again, cut-length}
-use Rattle.rules.specs.Session.{withHeld}
-use Rattle.rules.specs.Answers.{SessionStep, response, sessionStatus, moreBytes, give}
+use Rattle.session_steps.proofs.Laws.{give-all, give-held}
+use Rattle.octets.proofs.Cutting.{cut-again}
+use Rattle.rules.specs.Answers.{response, give}
 use Rattle.octets.specs.Octets.{Bytes}
-use native.Mathlib.Omega.{arith}
-use lib.ListN.{length, take}
+use lib.ListN.{take}
 use denote.Ref.{now}
-use mathlib.Core.Path.{_≡_, refl, sym, ap, _∙_}
+use mathlib.Core.Path.{_≡_, ap, _∙_}
 use borrow.Author.Needs.{needs}
 use Rattle.session_steps.proofs.give.Statement.{statement}
 use Rattle.session_steps.proofs.give.Tie as tie
-use Rattle.session_steps.proofs.give.Reads as reads
-use Rattle.session_steps.proofs.give.Lts as lts
-use Rattle.octets.proofs.part.Reads as part-reads
-use Rattle.session_steps.proofs.more_bytes.Reads as more-bytes-reads
-use Rattle.session_steps.proofs.session_data.Reads as session-data-reads
-use Rattle.session_steps.proofs.session_status.Reads as session-status-reads
-use Rattle.state.proofs.with_held.Reads as with-held-reads
 
 part-requires : tie.Need-part-requires
 part-requires c κs = search needs
@@ -37,7 +29,7 @@ with-held-requires : tie.Need-with-held-requires
 with-held-requires c κs = search needs
 
 more-bytes-requires : tie.Need-more-bytes-requires
-more-bytes-requires c κs = cut-length 256 (now (c .before .before .part .result)) (now (c .before .before .before .before .args .d)) (c .before .before .part .ensures)
+more-bytes-requires c κs = search needs
 
 session-status-requires : tie.Need-session-status-requires
 session-status-requires c κs = search needs

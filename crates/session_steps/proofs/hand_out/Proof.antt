@@ -1,11 +1,6 @@
 use borrow.Author.Needs.{needs}
 use Rattle.session_steps.proofs.hand_out.Statement.{statement}
 use Rattle.session_steps.proofs.hand_out.Tie as tie
-use Rattle.session_steps.proofs.hand_out.Reads as reads
-use Rattle.session_steps.proofs.hand_out.Lts as lts
-use Rattle.answers.proofs.handed_out.Reads as handed-out-reads
-use Rattle.answers.proofs.kind_number.Reads as kind-number-reads
-use Rattle.state.proofs.with_job.Reads as with-job-reads
 
 kind-number-requires : tie.Need-kind-number-requires
 kind-number-requires c κs = search needs

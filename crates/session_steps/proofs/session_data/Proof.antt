@@ -1,9 +1,6 @@
 use borrow.Author.Needs.{needs}
 use Rattle.session_steps.proofs.session_data.Statement.{statement}
 use Rattle.session_steps.proofs.session_data.Tie as tie
-use Rattle.session_steps.proofs.session_data.Reads as reads
-use Rattle.session_steps.proofs.session_data.Lts as lts
-use Rattle.answers.proofs.with_data.Reads as with-data-reads
 
 with-data-requires : tie.Need-with-data-requires
 with-data-requires c κs = search needs

@@ -1,9 +1,6 @@
 use borrow.Author.Needs.{needs}
 use Rattle.session_steps.proofs.session_status.Statement.{statement}
 use Rattle.session_steps.proofs.session_status.Tie as tie
-use Rattle.session_steps.proofs.session_status.Reads as reads
-use Rattle.session_steps.proofs.session_status.Lts as lts
-use Rattle.answers.proofs.status.Reads as status-reads
 
 status-requires : tie.Need-status-requires
 status-requires c κs = search needs

@@ -1,10 +1,6 @@
 use borrow.Author.Needs.{needs}
 use Rattle.state.proofs.closed.Statement.{statement}
 use Rattle.state.proofs.closed.Tie as tie
-use Rattle.state.proofs.closed.Reads as reads
-use Rattle.state.proofs.closed.Lts as lts
-use Rattle.state.proofs.code_of.Reads as code-of-reads
-use Rattle.state.proofs.with_code.Reads as with-code-reads
 
 code-of-requires : tie.Need-code-of-requires
 code-of-requires c κs = search needs

@@ -1,11 +1,6 @@
 use borrow.Author.Needs.{needs}
 use Rattle.state.proofs.drop_pending.Statement.{statement}
 use Rattle.state.proofs.drop_pending.Tie as tie
-use Rattle.state.proofs.drop_pending.Reads as reads
-use Rattle.state.proofs.drop_pending.Lts as lts
-use Rattle.state.proofs.drop_chain.Reads as drop-chain-reads
-use Rattle.state.proofs.drop_held.Reads as drop-held-reads
-use Rattle.state.proofs.with_session.Reads as with-session-reads
 
 drop-chain-requires : tie.Need-drop-chain-requires
 drop-chain-requires c κs = search needs

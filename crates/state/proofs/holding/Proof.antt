@@ -6,10 +6,6 @@ use mathlib.Core.Path.{_≡_}
 use borrow.Author.Needs.{needs}
 use Rattle.state.proofs.holding.Statement.{statement}
 use Rattle.state.proofs.holding.Tie as tie
-use Rattle.state.proofs.holding.Reads as reads
-use Rattle.state.proofs.holding.Lts as lts
-use Rattle.octets.proofs.filled_256.Reads as filled-256-reads
-use Rattle.octets.proofs.part.Reads as part-reads
 
 part-requires : tie.Need-part-requires
 part-requires c κs = search needs

@@ -6,10 +6,6 @@ use mathlib.Core.Path.{_≡_}
 use borrow.Author.Needs.{needs}
 use Rattle.state.proofs.joining.Statement.{statement}
 use Rattle.state.proofs.joining.Tie as tie
-use Rattle.state.proofs.joining.Reads as reads
-use Rattle.state.proofs.joining.Lts as lts
-use Rattle.octets.proofs.filled_257.Reads as filled-257-reads
-use Rattle.octets.proofs.part.Reads as part-reads
 
 part-requires : tie.Need-part-requires
 part-requires c κs = search needs

@@ -2,10 +2,6 @@ use Rattle.rules.specs.Session.{newSession}
 use borrow.Author.Needs.{needs}
 use Rattle.state.proofs.new_session.Statement.{statement}
 use Rattle.state.proofs.new_session.Tie as tie
-use Rattle.state.proofs.new_session.Reads as reads
-use Rattle.state.proofs.new_session.Lts as lts
-use Rattle.state.proofs.holding.Reads as holding-reads
-use Rattle.state.proofs.joining.Reads as joining-reads
 
 slice-aggregate-holding : tie.Need-slice-aggregate-holding
 slice-aggregate-holding c = search needs

@@ -1,9 +1,6 @@
 use borrow.Author.Needs.{needs}
 use Rattle.state.proofs.with_chain.Statement.{statement}
 use Rattle.state.proofs.with_chain.Tie as tie
-use Rattle.state.proofs.with_chain.Reads as reads
-use Rattle.state.proofs.with_chain.Lts as lts
-use Rattle.state.proofs.joining.Reads as joining-reads
 
 joining-requires : tie.Need-joining-requires
 joining-requires c κs = search needs

@@ -1,9 +1,6 @@
 use borrow.Author.Needs.{needs}
 use Rattle.state.proofs.with_held.Statement.{statement}
 use Rattle.state.proofs.with_held.Tie as tie
-use Rattle.state.proofs.with_held.Reads as reads
-use Rattle.state.proofs.with_held.Lts as lts
-use Rattle.state.proofs.holding.Reads as holding-reads
 
 holding-requires : tie.Need-holding-requires
 holding-requires c κs = search needs

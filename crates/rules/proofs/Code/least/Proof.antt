@@ -2,8 +2,6 @@ use borrow.Author.Tests.{eq-eqb, ne-eqb}
 use Rattle.rules.specs.Codes.{least}
 use Rattle.rules.proofs.Code.least.Statement.{statement}
 use Rattle.rules.proofs.Code.least.Tie as tie
-use Rattle.rules.proofs.Code.least.Reads as reads
-use Rattle.rules.proofs.Code.least.Lts as lts
 
 returns : tie.Need-returns
 unfolding least

@@ -1,0 +1,71 @@
+// MANAGE SECURITY ENVIRONMENT, as functions of values: the next session and the answer.
+use rules::Card;
+use rules::Header;
+use rules::Session;
+use session_steps::SessionOutput;
+ghost use mathlib.Core.Path.{_≡_};
+ghost use Rattle.rules.specs.KeyCommands.{setEnvironment, kindChosen, choosing, namesKey, chooseKey};
+ghost use Rattle.session_steps.specs.Steps.{sessionStepOf};
+
+// 22 F3: environment 1 or 6, with all key choices at "active".
+pub fn set_environment(s: Session, h: Header) -> SessionOutput
+    ensures { λ r. ⌜ sessionStepOf r ≡ setEnvironment s h ⌝ }
+{
+    let number = h.p2;
+    if (number == 1) | (number == 6) {
+        let next = state::with_environment(s, number, [0u16; 3]);
+        return session_steps::session_status(next, 0x9000);
+    }
+    session_steps::session_status(s, 0x6A88)
+}
+
+// The kind of job that P2 of 22 41 names.
+fn kind_chosen(p2: u8) -> u8
+    ensures { λ r. ⌜ r ≡ kindChosen p2 ⌝ }
+{
+    match p2 {
+        0xA4 => 1,
+        0xB6 => 2,
+        _ => 3,
+    }
+}
+
+// The session with another key choice for the kind of job that P2 names; 0 is "active".
+fn choosing(s: Session, p2: u8, key: u16) -> Session
+    ensures { λ r. ⌜ r ≡ choosing s (kindChosen p2) key ⌝ }
+{
+    let environment = s.environment;
+    let mut choices = environment.choices;
+    let place = octets::wide(kind_chosen(p2)) - 1;
+    choices[place] = key;
+    state::with_environment(s, environment.number, choices)
+}
+
+// Whether the data of 22 41 has the shape that names a key: 83 03 80 and two bytes.
+fn names_key(d: &[u8]) -> bool
+    ensures { λ r. ⌜ r ≡ namesKey (now (d .entry)) ⌝ }
+{
+    let heading = octets::equal(octets::part(d, 0, 3), b"\x83\x03\x80");
+    (d.len() == 5) & heading
+}
+
+// 22 41: chooses the active key or a key by its reference, for the jobs of one kind.
+pub fn choose_key(card: Card, s: Session, h: Header, d: &[u8]) -> SessionOutput
+    ensures { λ r. ⌜ sessionStepOf r ≡ chooseKey card s h (now (d .entry)) ⌝ }
+{
+    if octets::equal(d, b"\x83\x00") {
+        return session_steps::session_status(choosing(s, h.p2, 0), 0x9000);
+    }
+    if !names_key(d) {
+        return session_steps::session_status(s, 0x6A80);
+    }
+    let key = octets::word(octets::byte_at(d, 3), octets::byte_at(d, 4));
+    if !keys::of_class(kind_chosen(h.p2), key) {
+        return session_steps::session_status(s, 0x6A80);
+    }
+    let keys = card.keys;
+    if !keys::present(keys, key) {
+        return session_steps::session_status(s, 0x6A88);
+    }
+    session_steps::session_status(choosing(s, h.p2, key), 0x9000)
+}
