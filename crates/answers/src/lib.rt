@@ -7,7 +7,7 @@ use rules::Refusal;
 use rules::Reply;
 ghost use mathlib.Core.Path.{_≡_};
 ghost use mathlib.Core.List.{[]};
-ghost use Prim.Native.Nat.{_/_, _%_};
+ghost use Prim.Native.Nat.{_/_};
 ghost use lib.ListN.{take, drop};
 ghost use Rattle.rules.specs.Files.{certificateOf};
 ghost use Rattle.rules.specs.Keys.{kindNumber};
@@ -115,19 +115,6 @@ pub fn handed_out(kind: JobKind, key: u16, block: [u8; 256]) -> Output
     }
 }
 
-// The bytes of a status word.
-fn high(sw: u16) -> u8
-    ensures { λ r. ⌜ r ≡ sw / 256 ⌝ }
-{
-    (sw / 256) as u8
-}
-
-fn low(sw: u16) -> u8
-    ensures { λ r. ⌜ r ≡ sw % 256 ⌝ }
-{
-    (sw % 256) as u8
-}
-
 // Writes an answer to a buffer of at least 258 bytes, and no byte more: data and status word, or a job's block.
 pub fn write(card: Card, output: Output, buffer: &mut [u8]) -> Outcome
     ensures { λ r. ⌜ (r, now (buffer .exit)) ≡ writtenOr (now (buffer .entry)) card (outputOf output) ⌝ }
@@ -150,8 +137,8 @@ pub fn write(card: Card, output: Output, buffer: &mut [u8]) -> Outcome
             reply: Reply::HandedOut(kind_of(kind), output.key),
         };
     }
-    buffer[at] = high(output.sw);
-    buffer[at + 1] = low(output.sw);
+    buffer[at] = octets::high(output.sw);
+    buffer[at + 1] = octets::low(output.sw);
     Outcome {
         card: card,
         reply: Reply::Response(at + 2),

@@ -8,3 +8,4 @@ pub mod Words
 pub mod Parts
 pub mod Cutting
 pub mod Chains
+pub mod Filling

@@ -1,12 +1,12 @@
 -- Laws of a string written into another, and of the part of a string from a place on.
 use mathlib.Core.Path.{_≡_, _∙_}
-use mathlib.Core.List.{[], _∷_, _++_, append-assoc}
+use mathlib.Core.List.{[], _∷_, _++_, append-assoc, append-nil}
 use Prim.Native.Nat.{ℕ, zero, suc, _+_, _-_, _<_, _≤_, min}
 use native.Mathlib.Nat.{sub-zero, zero-sub, suc-sub-suc, zero-add}
 use native.Mathlib.Numerals.{add-one}
 use native.Mathlib.Omega.{arith, min-cases}
 use lib.ListN.{length, take, drop, set, replicate, length-append, length-take, length-drop, length-replicate, getD-replicate, drop-of-length-le}
-use lib.Seq.{take-nil, take-all, take-at, drop-append-add, drop-drop, drop-cons, set-at, append-snoc, paste, paste-suc}
+use lib.Seq.{take-nil, take-all, take-at, take-append-seam, take-append-add, take-append-le, drop-append-add, drop-drop, drop-cons, set-at, append-snoc, paste, paste-suc}
 use Rattle.octets.specs.Octets.{Bytes, byteAt, blank, filled, pasted}
 
 -- A loop that copies as many bytes as fit.
@@ -79,3 +79,51 @@ module _ (buffer front : Bytes) (at : ℕ) (e : length front ≡ at) (next : ℕ
   then-string s n =
       let fits : length s ≤ length (front ++ drop at buffer) - at = simp (length-append, length-drop) (omega arith) in
       rw (take-all _ s fits, take-at front (drop at buffer) at e, ← n, ← e, drop-append-add front (drop (length front) buffer) (length s), drop-drop (length s) (length front) buffer, append-assoc)
+
+-- A string written at the front.
+pasted-front : (d s : Bytes) → pasted d 0 s ≡ take (length d) s ++ drop (length s) d
+unfolding pasted
+pasted-front d s = rw (sub-zero (length d), zero-add (length s))
+
+pub pasted-nothing : (d : Bytes) → pasted d 0 [] ≡ d
+pasted-nothing d = rw (pasted-front d [], take-nil (length d))
+
+-- One written where another ends.
+pasted-end : (p r q : Bytes) → pasted (p ++ r) (length p) q ≡ p ++ (take (length r) q ++ drop (length q) r)
+unfolding pasted
+pasted-end p r q =
+    let room : length (p ++ r) - length p ≡ length r = simp length-append (omega arith) in
+    rw (room, take-append-seam p r, drop-append-add p r (length q))
+
+-- A string written at the front, and another behind it: both are cut where the room ends.
+module _ (d p q : Bytes) where
+  behind-short : length p ≤ length d → pasted (pasted d 0 p) (length p) q ≡ pasted d 0 (p ++ q)
+  behind-short h =
+      let sum : length p + (length d - length p) ≡ length d = omega arith in
+      let cut : take (length d) (p ++ q) ≡ p ++ take (length d - length p) q = rw sum at (take-append-add p q (length d - length p)) in
+      rw (
+        pasted-front d p,
+        take-all (length d) p h,
+        pasted-end p (drop (length p) d) q,
+        length-drop (length p) d,
+        drop-drop (length q) (length p) d,
+        pasted-front d (p ++ q),
+        cut,
+        length-append p q,
+        append-assoc,
+      )
+
+  behind-full : length d ≤ length p → pasted (pasted d 0 p) (length d) q ≡ pasted d 0 (p ++ q)
+  behind-full h =
+      let cut : Bytes = take (length d) p in
+      let size : length cut ≡ length d = length-take (length d) p ∙ omega arith in
+      let past : length d ≤ length (p ++ q) = rw (length-append p q) (omega arith) in
+      let some : 0 ≤ length q = omega arith in
+      let end : pasted (cut ++ []) (length cut) q ≡ cut = pasted-end cut [] q ∙ rw (drop-of-length-le [] some) (append-nil cut) in
+      rw (pasted-front d p, drop-of-length-le d h, pasted-front d (p ++ q), drop-of-length-le d past, take-append-le (length d) p q h, append-nil cut) (rw (append-nil cut, size) at end)
+
+  pub pasted-behind : (at : ℕ) → at ≡ min (length p) (length d) → pasted (pasted d 0 p) at q ≡ pasted d 0 (p ++ q)
+  pasted-behind at e =
+      min-cases (length p) (length d) (pasted (pasted d 0 p) at q ≡ pasted d 0 (p ++ q))
+      (λ h m. rw (e, m) (behind-short h))
+      (λ h m. rw (e, m) (behind-full h))

@@ -1,7 +1,7 @@
 // Slices of bytes: what is asked of them, and what is written into them. Every function takes every input.
 // The definitions that the contracts cite stand in specs/, their laws in proofs/.
 ghost use mathlib.Core.Path.{_≡_};
-ghost use Prim.Native.Nat.{_-_, min};
+ghost use Prim.Native.Nat.{_-_, _/_, _%_, min};
 ghost use lib.ListN.{take, drop, replicate};
 ghost use Rattle.octets.specs.Octets.{byteAt, word, same, allDigits, allZero, pasted};
 
@@ -125,4 +125,17 @@ pub fn word(high: u8, low: u8) -> u16
     ensures { λ r. ⌜ r ≡ word high low ⌝ }
 {
     (high as u16) * 256 + (low as u16)
+}
+
+// The two bytes of a number, high and low.
+pub fn high(n: u16) -> u8
+    ensures { λ r. ⌜ r ≡ n / 256 ⌝ }
+{
+    (n / 256) as u8
+}
+
+pub fn low(n: u16) -> u8
+    ensures { λ r. ⌜ r ≡ n % 256 ⌝ }
+{
+    (n % 256) as u8
 }

@@ -29,10 +29,10 @@ pub fn zero_code() -> Code
 pub fn code_of(card: Card, number: usize) -> Code
     ensures { λ r. ⌜ r ≡ codeOf card number ⌝ }
 {
-    if 3 <= number {
-        return zero_code();
+    if number < 3 {
+        return card.codes[number];
     }
-    card.codes[number]
+    zero_code()
 }
 
 // The card with the code of a number replaced; the card itself where there is none.

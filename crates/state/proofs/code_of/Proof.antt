@@ -11,21 +11,22 @@ use Rattle.state.proofs.code_of.Tie as tie
 three : (c : tie.Start) → length (c .args .t1 .codes) ≡ 3
 three c = sym (length-map (c .args .t1 .codes) _) ∙ c .good .0 .1 .1 .0 .1 .0 .1
 
-zero-code-requires : tie.Need-zero-code-requires
-zero-code-requires c κs = search needs
-
-returns : tie.Need-returns
-returns c = c .zero-code .ensures ∙ sym (List·getD-eq-default (c .before .before .args .t1 .codes) zeroCode (omega (arith, three (c .before .before), c .before .if1 .taken)))
-
 mul-result : tie.Need-mul-result
 mul-result c = search needs
 
 element-copy-out-result : tie.Need-element-copy-out-result
 element-copy-out-result c = search needs
 
+returns : tie.Need-returns
+returns c = place-inside (c .before .before .args .t1 .codes) (c .before .before .args .number) _ zeroCode (omega (arith, three (c .before .before), c .before .if1 .taken))
+
+zero-code-requires : tie.Need-zero-code-requires
+zero-code-requires c κs = search needs
+
 returns-2 : tie.Need-returns-2
-returns-2 c = place-inside (c .before .before .args .t1 .codes) (c .before .before .args .number) _ zeroCode (omega (arith, three (c .before .before), c .before .if1 .left))
+returns-2 c =
+    c .zero-code .ensures ∙ sym (List·getD-eq-default (c .before .before .args .t1 .codes) zeroCode (omega (arith, three (c .before .before), c .before .if1 .left)))
 
 pub code-of-spec : {M : Type 1} → statement M
 code-of-spec =
-    tie.close (tie.spec zero-code-requires returns mul-result element-copy-out-result returns-2)
+    tie.close (tie.spec mul-result element-copy-out-result returns zero-code-requires returns-2)

@@ -1,0 +1,87 @@
+// The transcript program: lines in, one line out for each.
+mod certificates;
+
+use libc::STDIN_FILENO;
+use libc::STDOUT_FILENO;
+use transcripts::Talk;
+
+// How many bytes are answered at a time. A line that ends within them gives at most 518 characters, and there are no more such lines than bytes,
+// so that what they give fits into 65,536 bytes.
+const PIECE: usize = 126;
+
+// The program after some input, and whether its output could be written.
+struct Answered {
+    talk: Talk,
+    written: bool,
+}
+
+// Answers what was read, piece by piece.
+fn answer_pieces(talk: Talk, input: &[u8], output: &mut [u8]) -> Answered {
+    let mut next = talk;
+    let mut written = true;
+    let mut at = 0;
+    while at < input.len() {
+        let piece = octets::part(input, at, PIECE);
+        let fed = transcripts::feed(
+            next,
+            piece,
+            &certificates::AUTHENTICATION,
+            &certificates::SIGNATURE,
+            output,
+        );
+        next = fed.talk;
+        let done = io::write_all(STDOUT_FILENO, octets::part(output, 0, fed.written));
+        written = written & done;
+        at += piece.len();
+    }
+    Answered {
+        talk: next,
+        written: written,
+    }
+}
+
+// The program after one more reading, and whether to go on.
+struct Turn {
+    talk: Talk,
+    more: bool,
+}
+
+// Reads once, and answers what came.
+fn read_some(talk: Talk, input: &mut [u8], output: &mut [u8]) -> Turn {
+    let got = libc::read(STDIN_FILENO, input);
+    let n = io::count(got, input);
+    let answered = answer_pieces(talk, octets::part(input, 0, n), output);
+    let next = answered.talk;
+    Turn {
+        talk: next,
+        more: answered.written & (0 < got),
+    }
+}
+
+// A proved loop has to end, and nothing says that the input does. So the loop counts its turns down, from a number that no run uses up.
+fn read_all(input: &mut [u8], output: &mut [u8]) -> Talk {
+    let mut talk = transcripts::first_talk();
+    let mut left = u64::MAX;
+    while 0 < left {
+        let turn = read_some(talk, input, output);
+        talk = turn.talk;
+        if !turn.more {
+            return talk;
+        }
+        left -= 1;
+    }
+    talk
+}
+
+fn main() {
+    let mut input = io::large_buffer();
+    let mut output = io::large_buffer();
+    let talk = read_all(&mut input, &mut output);
+    let last = transcripts::last_line(
+        talk,
+        &certificates::AUTHENTICATION,
+        &certificates::SIGNATURE,
+    );
+    let bytes = last.bytes;
+    io::write_all(STDOUT_FILENO, octets::part(&bytes, 0, last.len));
+}

@@ -1,0 +1,115 @@
+-- Laws of an input read in parts, and of its first line.
+use mathlib.Core.Path.{_≡_, refl, ap, _∙_}
+use mathlib.Core.Bool.{true, false}
+use mathlib.Core.List.{[], _∷_, _++_, append-assoc, append-nil}
+use Prim.Native.Nat.{ℕ, suc, _+_, _≤_, _<_}
+use native.Mathlib.Nat.{le-of-suc-le-suc, not-suc-le-zero}
+use native.Mathlib.Numerals.{add-one}
+use native.Mathlib.Omega.{arith}
+use lib.Dec.{eqb}
+use lib.ListN.{length, take, drop, length-take, drop-of-length-le}
+use lib.Seq.{take-all, take-suc, drop-cons}
+use mathlib.Core.Logic.{_≢_}
+use borrow.Author.Tests.{eqb-true, eq-eqb, ne-eqb}
+use Rattle.octets.proofs.Cutting.{cut-front}
+use Rattle.octets.specs.Octets.{Bytes, byteAt}
+use Rattle.octets.proofs.Tests.{by-test}
+use Rattle.lines.specs.Lines.{Said, lineFeed}
+use Rattle.transcripts.specs.Transcript.{Program, Run, longer, writtenBefore, atLineEnd, run, lastLine, lineLength}
+
+-- The characters before the first line feed: none is left, the one at the index is a line feed, or it is another.
+module _ (s : Bytes) (i : ℕ) where
+  pub count-end : length s ≤ i → lineLength (drop i s) ≡ 0
+  count-end h = rw (drop-of-length-le s h)
+
+  pub count-stop : i < length s → byteAt s i ≡ lineFeed → lineLength (drop i s) ≡ 0
+  count-stop h e = rw (drop-cons s i 0 h, eq-eqb _ _ e)
+
+  pub count-more : i < length s → byteAt s i ≢ lineFeed → lineLength (drop i s) ≡ suc (lineLength (drop (i + 1) s))
+  count-more h n = rw (add-one, drop-cons s i 0 h, ne-eqb _ _ n)
+
+module _ (authentication signature : Bytes) where
+  abbrev answered : Program → Said
+  answered = atLineEnd authentication signature
+
+  abbrev reading : Program → Bytes → Run
+  reading = run authentication signature
+
+  abbrev nextLine : Program → Program
+  nextLine p = record { card = answered p .card; line = [] }
+
+  abbrev oneMore : Program → ℕ → Program
+  oneMore p x = record { card = p .card; line = longer (p .line) (x ∷ []) }
+
+  at-feed : (p : Program) (x : ℕ) (b : Bytes) → eqb x lineFeed ≡ true → reading p (x ∷ b) ≡ writtenBefore (answered p .text) (reading (nextLine p) b)
+  unfolding run
+  at-feed p x b e = rw e
+
+  at-other : (p : Program) (x : ℕ) (b : Bytes) → eqb x lineFeed ≡ false → reading p (x ∷ b) ≡ reading (oneMore p x) b
+  unfolding run
+  at-other p x b e = rw e
+
+  pub at-end : (p : Program) → reading p [] ≡ record { program = p; text = [] }
+  unfolding run
+  at-end p = refl
+
+  -- An input read in two parts.
+  pub run-append : (p : Program) (a b : Bytes) → reading p (a ++ b) ≡ writtenBefore (reading p a .text) (reading (reading p a .program) b)
+  run-append p [] b = rw (at-end p)
+  run-append p (x ∷ a) b =
+      by-test _ (eqb x lineFeed)
+      (λ e. rw (at-feed p x (a ++ b) e, at-feed p x a e, run-append (nextLine p) a b, append-assoc))
+      (λ e. rw (at-other p x (a ++ b) e, at-other p x a e) (run-append (oneMore p x) a b))
+
+  -- A program that has read more characters, none of them a line feed.
+  abbrev further : Program → Bytes → Run
+  further p d = record { program = record { card = p .card; line = longer (p .line) d }; text = [] }
+
+  none-further : (p : Program) → length (p .line) ≤ 1025 → reading p [] ≡ further p []
+  none-further p h = rw (at-end p, append-nil (p .line), take-all 1025 (p .line) h)
+
+  pub run-plain : (p : Program) (b : Bytes) → length (p .line) ≤ 1025 → reading p (take (lineLength b) b) ≡ further p (take (lineLength b) b)
+  run-plain p [] h = none-further p h
+  run-plain p (x ∷ b) h =
+      by-test _ (eqb x lineFeed)
+      (λ e. rw e (none-further p h))
+      (λ e.
+      let d : Bytes = take (lineLength b) b in
+      let size : length (longer (p .line) (x ∷ [])) ≤ 1025 = omega (arith, length-take 1025 (p .line ++ x ∷ [])) in
+      let joined : longer (longer (p .line) (x ∷ [])) d ≡ longer (p .line) (x ∷ d) = cut-front 1025 (p .line ++ x ∷ []) d ∙ ap (take 1025) (append-assoc (p .line) (x ∷ []) d) in
+      rw (e, at-other p x d e, run-plain (oneMore p x) b size, joined))
+
+  -- The character after them, if there is one, is a line feed.
+  feed-next : (b : Bytes) → lineLength b < length b → byteAt b (lineLength b) ≡ lineFeed
+  feed-next [] h = absurd (not-suc-le-zero h)
+  feed-next (x ∷ b) h =
+      by-test _ (eqb x lineFeed)
+      (λ e. rw e (eqb-true x lineFeed e))
+      (λ e. rw e (feed-next b (le-of-suc-le-suc (rw e at h))))
+
+  -- A line with its line feed.
+  pub run-line : (p : Program) (b : Bytes) → length (p .line) ≤ 1025 → lineLength b < length b
+      → reading p (take (lineLength b + 1) b)
+      ≡ record { program = nextLine (further p (take (lineLength b) b) .program); text = answered (further p (take (lineLength b) b) .program) .text }
+  run-line p b h k =
+      let n : ℕ = lineLength b in
+      rw (
+        add-one,
+        take-suc b n 0 k,
+        feed-next b k,
+        run-append p (take n b) (lineFeed ∷ []),
+        run-plain p b h,
+        at-feed (further p (take n b) .program) lineFeed [] refl,
+        at-end (nextLine (further p (take n b) .program)),
+        append-nil,
+      )
+
+  -- A last line that did not end.
+  module _ (p : Program) {d : Bytes} (e : d ≡ p .line) where
+    pub no-last-line : length d ≡ 0 → [] ≡ lastLine authentication signature p
+    unfolding lastLine
+    no-last-line h = simp (← e, eq-eqb (length d) 0 h)
+
+    pub last-line-answered : length d ≢ 0 → answered p .text ≡ lastLine authentication signature p
+    unfolding lastLine
+    last-line-answered h = rw (← e, ne-eqb (length d) 0 h)

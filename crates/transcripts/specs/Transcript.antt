@@ -1,0 +1,82 @@
+-- Document 01, "Cases": the transcript program. It uses the sample card and two certificates, reads lines and writes one line each.
+use Prim.Native.Nat.{ℕ, suc, min}
+use mathlib.Core.Bool.{cond}
+use mathlib.Core.List.{[], _∷_, _++_}
+use lib.ListN.{length, take}
+use lib.Dec.{eqb}
+use Rattle.octets.specs.Octets.{Bytes, pasted}
+use Rattle.text.specs.Text.{textOf}
+use Rattle.rules.specs.declared.Card.{Card}
+use Rattle.rules.specs.Sample.{sampleCard}
+use Rattle.lines.specs.Lines.{Said, lineFeed, answerLine}
+use Rattle.transcripts.specs.declared.Talk.{Talk}
+use Rattle.transcripts.specs.declared.FirstLine.{FirstLine}
+use Rattle.transcripts.specs.declared.Fed.{Fed}
+
+-- The program between two characters: the card, and the line as far as it has come. Of a line too long no more than 1,025 characters are kept.
+pub record Program : Type 0 where
+  pub card : Card
+  pub line : Bytes
+
+abbrev pub longer : Bytes → Bytes → Bytes
+longer line more = take 1025 (line ++ more)
+
+-- Where some input has been read: the program afterwards and what it has written.
+pub record Run : Type 0 where
+  pub program : Program
+  pub text : Bytes
+
+abbrev pub writtenBefore : Bytes → Run → Run
+writtenBefore text r = record { program = r .program; text = text ++ r .text }
+
+-- The program starts with the sample card.
+abbrev pub start : Program
+start = record { card = sampleCard; line = [] }
+
+module _ (authentication signature : Bytes) where
+  abbrev pub atLineEnd : Program → Said
+  atLineEnd p = answerLine (p .card) authentication signature (p .line)
+
+  -- Input, character by character.
+  unfoldable pub run : Program → Bytes → Run
+  run p [] = record { program = p; text = [] }
+  run p (x ∷ input) =
+      cond (eqb x lineFeed)
+      (writtenBefore (atLineEnd p .text) (run (record { card = atLineEnd p .card; line = [] }) input))
+      (run (record { card = p .card; line = longer (p .line) (x ∷ []) }) input)
+
+  -- The last line perhaps does not end in a line feed.
+  unfoldable pub lastLine : Program → Bytes
+  lastLine p = cond (eqb (length (p .line)) 0) [] (atLineEnd p .text)
+
+  -- All that it writes for an input.
+  abbrev pub transcript : Bytes → Bytes
+  transcript input = run start input .text ++ lastLine (run start input .program)
+
+-- How many characters stand before the first line feed.
+abbrev pub lineLength : Bytes → ℕ
+lineLength [] = 0
+lineLength (x ∷ b) = cond (eqb x lineFeed) 0 (suc (lineLength b))
+
+-- The first line with its line feed, or all of an input without one.
+abbrev pub lineTaken : Bytes → ℕ
+lineTaken b = min (length b) (suc (lineLength b))
+
+-- The program after some input, and how much of the output stands in a buffer.
+pub record FedBytes : Type 0 where
+  pub program : Program
+  pub written : ℕ
+
+-- The output at the front of a buffer, as much of it as fits.
+abbrev pub fed : Bytes → Run → FedBytes × Bytes
+fed buffer r = (record { program = r .program; written = min (length (r .text)) (length buffer) }, pasted buffer 0 (r .text))
+
+-- What the code holds, read as the definitions above have it.
+abbrev pub programOf : Talk → Program
+programOf t = record { card = t .card; line = textOf (t .line) }
+
+abbrev pub runOf : FirstLine → Run
+runOf f = record { program = programOf (f .talk); text = textOf (f .text) }
+
+abbrev pub fedOf : Fed → FedBytes
+fedOf f = record { program = programOf (f .talk); written = f .written }
