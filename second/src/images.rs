@@ -104,7 +104,7 @@ fn valid(r: &mut Random, fault: usize) -> Vec<u8> {
         image.extend(r.bytes(length));
     }
     if fault == 15 {
-        let n = r.pick(&[1, 1, 2, 100]);
+        let n = r.pick(&[1, 1, 2, 100, 70_000]);
         image.extend(r.bytes(n));
     }
     image

@@ -6,6 +6,8 @@ pub mod generate;
 pub mod hex;
 pub mod image;
 pub mod images;
+pub mod listing;
+pub mod pad_lines;
 pub mod padding;
 pub mod request;
 pub mod sample;

@@ -2,7 +2,7 @@
 
 use second::generate::{Generator, Random};
 use second::transcript::Transcript;
-use second::{images, load};
+use second::{images, load, pad_lines};
 use std::collections::BTreeSet;
 
 #[test]
@@ -44,4 +44,22 @@ fn every_load_number_occurs() {
     for number in [0, 21, 22, 23, 24, 25, 26, 27] {
         assert!(counts[number] > 10, "{number}: {counts:?}");
     }
+}
+
+#[test]
+fn every_padding_answer_occurs() {
+    let mut random = Random(6);
+    let mut padded = BTreeSet::new();
+    let mut stripped = BTreeSet::new();
+    for _ in 0..20_000 {
+        let line = pad_lines::line(&mut random);
+        let answer = pad_lines::answer(line.as_bytes());
+        match answer.split_once(' ') {
+            Some((number, _)) => padded.insert(number.to_string()),
+            None => stripped.insert(answer),
+        };
+    }
+    assert_eq!(padded, ["0", "256"].map(str::to_string).into());
+    let numbers = (11..=256).chain([0]).map(|n| n.to_string());
+    assert_eq!(stripped, numbers.chain(["?".to_string()]).collect());
 }

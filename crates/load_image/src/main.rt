@@ -1,0 +1,100 @@
+// Reads a card image and prints what load makes of it: the fault's number, or the card, a line for each part.
+use libc::STDIN_FILENO;
+use libc::STDOUT_FILENO;
+use rules::Card;
+use rules::Code;
+use rules::Fault;
+use rules::LoadResult;
+use rules::Record;
+
+fn print(s: &[u8]) {
+    io::write_all(STDOUT_FILENO, s);
+}
+
+// A name, and the hex of at most 258 bytes.
+fn print_bytes(name: &[u8], s: &[u8]) {
+    let shown = octets::part(s, 0, 258);
+    let code = hex::hex_of(shown);
+    print(name);
+    print(octets::part(&code, 0, 2 * shown.len()));
+    print(b"\n");
+}
+
+// A name, the digits and the tries left.
+fn print_code(name: &[u8], code: Code) {
+    let digits = code.digits;
+    print(name);
+    print(octets::part(&digits, 0, code.len));
+    print(b" ");
+    io::print_decimal(STDOUT_FILENO, octets::wide(code.tries) as u64);
+    print(b"\n");
+}
+
+fn print_key(there: bool, name: &[u8]) {
+    if there {
+        print(name);
+    }
+}
+
+fn print_keys(keys: [bool; 4]) {
+    print(b"keys");
+    print_key(keys[0], b" 0100");
+    print_key(keys[1], b" 0200");
+    print_key(keys[2], b" 1100");
+    print_key(keys[3], b" 1200");
+    print(b"\n");
+}
+
+fn print_references(references: [u8; 21]) {
+    print_bytes(b"references ", &references);
+}
+
+fn print_record(record: Record) {
+    let bytes = record.bytes;
+    print_bytes(b"record ", octets::part(&bytes, 0, record.len));
+}
+
+fn print_records(personal: [Record; 16]) {
+    let mut i = 0;
+    while i < 16 {
+        let record = personal[i];
+        print_record(record);
+        i += 1;
+    }
+}
+
+fn print_card(card: Card) {
+    print_code(b"PUK ", state::code_of(card, Code::PUK));
+    print_code(b"PIN1 ", state::code_of(card, Code::PIN1));
+    print_code(b"PIN2 ", state::code_of(card, Code::PIN2));
+    let keys = card.keys;
+    print_keys(keys);
+    let references = card.references;
+    print_references(references);
+    let personal = card.personal;
+    print_records(personal);
+}
+
+fn print_fault(fault: Fault) {
+    match fault {
+        Fault::EndsEarly => print(b"21\n"),
+        Fault::WrongCount => print(b"22\n"),
+        Fault::BadCode => print(b"23\n"),
+        Fault::BadKey => print(b"24\n"),
+        Fault::BadReference => print(b"25\n"),
+        Fault::RecordLength => print(b"26\n"),
+        Fault::LeftOver => print(b"27\n"),
+    }
+}
+
+// An image of more than 1,115 bytes is refused by what stands in its first 1,116, so 4,096 bytes of it are enough.
+fn main() {
+    let mut image = io::buffer();
+    let n = io::read_full(STDIN_FILENO, &mut image);
+    let loaded = image::load(octets::part(&image, 0, n));
+    let result = loaded.result;
+    match result {
+        LoadResult::Accepted => print_card(loaded.card),
+        LoadResult::Faulty(fault) => print_fault(fault),
+    }
+}
