@@ -1,7 +1,7 @@
 -- Laws of loops that go through strings by an index: what is left from the index on decides.
 use mathlib.Core.Path.{_≡_}
 use mathlib.Core.Logic.{_≢_}
-use mathlib.Core.Bool.{Bool, true, false}
+use mathlib.Core.Bool.{Bool, true, false, _&&_, and-assoc, and-true}
 use Prim.Native.Nat.{ℕ, _+_, _<_, _≤_}
 use native.Mathlib.Numerals.{add-one}
 use lib.ListN.{length, drop, drop-of-length-le}
@@ -19,6 +19,14 @@ module _ (t : ℕ → Bool) (s : Bytes) (i : ℕ) where
 
   pub all-end : length s ≤ i → all t (drop i s) ≡ true
   all-end h = rw (drop-of-length-le s h)
+
+-- A test of every byte with no early end: b tells of the bytes before the index.
+module _ (t : ℕ → Bool) (s : Bytes) (i : ℕ) (b : Bool) where
+  pub fold-more : i < length s → (b && all t (drop i s)) ≡ ((b && t (byteAt s i)) && all t (drop (i + 1) s))
+  fold-more h = rw (add-one, drop-cons s i 0, and-assoc)
+
+  pub fold-end : length s ≤ i → (b && all t (drop i s)) ≡ b
+  fold-end h = rw (drop-of-length-le s h, and-true)
 
 -- Two strings side by side: the bytes at the index are equal, they are not, or none is left of either.
 module _ (a b : Bytes) (i : ℕ) where

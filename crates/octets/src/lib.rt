@@ -65,14 +65,13 @@ pub fn all_digits(s: &[u8]) -> bool
 pub fn all_zero(s: &[u8]) -> bool
     ensures { λ r. ⌜ r ≡ allZero (now (s .entry)) ⌝ }
 {
+    let mut zero = true;
     let mut i = 0;
     while i < s.len() {
-        if s[i] != 0 {
-            return false;
-        }
+        zero = zero & (s[i] == 0);
         i += 1;
     }
-    true
+    zero
 }
 
 // How many of n bytes fit into a slice of `len` bytes from index `at` on.

@@ -5,9 +5,8 @@ use libc::STDIN_FILENO;
 use libc::STDOUT_FILENO;
 use transcripts::Talk;
 
-// How many bytes are answered at a time. A line that ends within them gives at most 518 characters, and there are no more such lines than bytes,
-// so that what they give fits into 65,536 bytes.
-const PIECE: usize = 126;
+// How many bytes are answered at a time: each gives at most 518 characters (`ShortOutput`), so that all of it fits into 524,288 bytes.
+const PIECE: usize = 1012;
 
 // The program after some input, and whether its output could be written.
 struct Answered {
@@ -75,7 +74,7 @@ fn read_all(input: &mut [u8], output: &mut [u8]) -> Talk {
 
 fn main() {
     let mut input = io::large_buffer();
-    let mut output = io::large_buffer();
+    let mut output = [0u8; 524288];
     let talk = read_all(&mut input, &mut output);
     let last = transcripts::last_line(
         talk,

@@ -35,17 +35,17 @@ module _ (authentication signature : Bytes) where
   abbrev reading : Program → Bytes → Run
   reading = run authentication signature
 
-  abbrev nextLine : Program → Program
+  abbrev pub nextLine : Program → Program
   nextLine p = record { card = answered p .card; line = [] }
 
-  abbrev oneMore : Program → ℕ → Program
+  abbrev pub oneMore : Program → ℕ → Program
   oneMore p x = record { card = p .card; line = longer (p .line) (x ∷ []) }
 
-  at-feed : (p : Program) (x : ℕ) (b : Bytes) → eqb x lineFeed ≡ true → reading p (x ∷ b) ≡ writtenBefore (answered p .text) (reading (nextLine p) b)
+  pub at-feed : (p : Program) (x : ℕ) (b : Bytes) → eqb x lineFeed ≡ true → reading p (x ∷ b) ≡ writtenBefore (answered p .text) (reading (nextLine p) b)
   unfolding run
   at-feed p x b e = rw e
 
-  at-other : (p : Program) (x : ℕ) (b : Bytes) → eqb x lineFeed ≡ false → reading p (x ∷ b) ≡ reading (oneMore p x) b
+  pub at-other : (p : Program) (x : ℕ) (b : Bytes) → eqb x lineFeed ≡ false → reading p (x ∷ b) ≡ reading (oneMore p x) b
   unfolding run
   at-other p x b e = rw e
 

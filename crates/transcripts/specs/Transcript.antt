@@ -1,10 +1,11 @@
 -- Document 01, "Cases": the transcript program. It uses the sample card and two certificates, reads lines and writes one line each.
-use Prim.Native.Nat.{ℕ, suc, min}
-use mathlib.Core.Bool.{cond}
+use Prim.Native.Nat.{ℕ, suc, _*_, _≤_, min}
+use mathlib.Core.Path.{_≡_}
+use mathlib.Core.Bool.{true, cond}
 use mathlib.Core.List.{[], _∷_, _++_}
 use lib.ListN.{length, take}
 use lib.Dec.{eqb}
-use Rattle.octets.specs.Octets.{Bytes, pasted}
+use Rattle.octets.specs.Octets.{Bytes, allBytes, pasted}
 use Rattle.text.specs.Text.{textOf}
 use Rattle.rules.specs.declared.Card.{Card}
 use Rattle.rules.specs.Sample.{sampleCard}
@@ -52,6 +53,12 @@ module _ (authentication signature : Bytes) where
   -- All that it writes for an input.
   abbrev pub transcript : Bytes → Bytes
   transcript input = run start input .text ++ lastLine (run start input .program)
+
+-- A line gives at most 518 characters, its line feed included. So a buffer of 518 bytes for each character of an input holds all that the input gives.
+abbrev pub ShortOutput : Type 0
+ShortOutput =
+    (authentication signature : Bytes) → allBytes authentication ≡ true → allBytes signature ≡ true
+    → (p : Program) (input : Bytes) → length (run authentication signature p input .text) ≤ 518 * length input
 
 -- How many characters stand before the first line feed.
 abbrev pub lineLength : Bytes → ℕ

@@ -3,9 +3,6 @@ use native.Mathlib.Omega.{arith}
 use borrow.Author.Needs.{needs}
 use Rattle.load_image.proofs.print_records.Statement.{statement}
 use Rattle.load_image.proofs.print_records.Tie as tie
-use Rattle.load_image.proofs.print_records.Reads as reads
-use Rattle.load_image.proofs.print_records.Lts as lts
-use Rattle.load_image.proofs.print_record.Reads as print-record-reads
 
 abbrev Inv-loop : tie.InvT-loop
 Inv-loop personal i₀ i = i ≤ 16

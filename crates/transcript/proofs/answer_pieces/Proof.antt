@@ -1,5 +1,5 @@
 -- The measure is what is left of the input; the buffer keeps its length.
-use mathlib.Core.Path.{_≡_, refl, ap, _∙_}
+use mathlib.Core.Path.{_≡_, refl, ap}
 use Prim.Native.Nat.{_+_, _-_, _≤_}
 use native.Mathlib.Omega.{arith}
 use lib.ListN.{length, drop, length-take, length-drop}
@@ -7,11 +7,6 @@ use denote.Ref.{now}
 use borrow.Author.Needs.{needs}
 use Rattle.transcript.proofs.answer_pieces.Statement.{statement}
 use Rattle.transcript.proofs.answer_pieces.Tie as tie
-use Rattle.transcript.proofs.answer_pieces.Reads as reads
-use Rattle.transcript.proofs.answer_pieces.Lts as lts
-use Rattle.io.proofs.write_all.Reads as write-all-reads
-use Rattle.octets.proofs.part.Reads as part-reads
-use Rattle.transcripts.proofs.feed.Reads as feed-reads
 
 abbrev Inv-loop : tie.InvT-loop
 Inv-loop input output₀ next₀ written₀ at₀ t10 t11 output next written at = (at ≤ length input) × (length output ≡ length output₀)
@@ -26,7 +21,7 @@ loop-holds c = (omega arith, refl)
 goes-on : (c : tie.After-part Inv-loop μ-loop) → (1 ≤ length (now (c .part .result))) × (c .before .before .loop .at + length (now (c .part .result)) ≤ length (now (c .before .before .before .before .before .args .input)))
 goes-on c =
     let rest = drop (c .before .before .loop .at) (now (c .before .before .before .before .before .args .input)) in
-    omega (arith, ap length (c .part .ensures), length-take 126 rest, length-drop (c .before .before .loop .at) (now (c .before .before .before .before .before .args .input)), c .before .loop-test)
+    omega (arith, ap length (c .part .ensures), length-take 1012 rest, length-drop (c .before .before .loop .at) (now (c .before .before .before .before .before .args .input)), c .before .loop-test)
 
 part-requires : tie.Need-part-requires Inv-loop μ-loop
 part-requires c κs = search needs

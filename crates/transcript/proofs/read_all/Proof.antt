@@ -5,10 +5,6 @@ use lib.ListN.{length}
 use borrow.Author.Needs.{needs}
 use Rattle.transcript.proofs.read_all.Statement.{statement}
 use Rattle.transcript.proofs.read_all.Tie as tie
-use Rattle.transcript.proofs.read_all.Reads as reads
-use Rattle.transcript.proofs.read_all.Lts as lts
-use Rattle.transcript.proofs.read_some.Reads as read-some-reads
-use Rattle.transcripts.proofs.first_talk.Reads as first-talk-reads
 
 abbrev Inv-loop : tie.InvT-loop
 Inv-loop input₀ output₀ talk₀ left₀ input output talk left = (length input ≡ length input₀) × (length output ≡ length output₀)

@@ -1,0 +1,134 @@
+//! The two transcript programs on the same generated lines.
+
+use crate::goals::Goals;
+use second::generate::Generator;
+use std::fs::{self, File};
+use std::io::{self, BufWriter, Read, Write};
+use std::path::{Path, PathBuf};
+use std::process::{Child, Command, Stdio};
+use std::thread;
+use std::time::Instant;
+
+const SEED: u64 = 1;
+const SIZES: [(usize, &str); 3] = [(10_000, "10 thousand"), (100_000, "100 thousand"), (1_000_000, "a million")];
+const RUNS: usize = 5;
+const FLAT: f64 = 1.1;
+const MOST_MEMORY: u64 = 8 * 1024; // kB
+const LONG_LINE: usize = 16_000_000;
+
+struct Input {
+    file: PathBuf,
+    name: String,
+    lines: usize,
+}
+
+pub fn measure(transcript: &str, second: &str, folder: &Path, goals: &mut Goals) -> io::Result<()> {
+    let inputs = generated(folder)?;
+    let mut ours = vec![f64::INFINITY; inputs.len()];
+    let mut theirs = ours.clone();
+    for _ in 0..RUNS {
+        for (place, input) in inputs.iter().enumerate() {
+            ours[place] = ours[place].min(seconds(transcript, input)?);
+            theirs[place] = theirs[place].min(seconds(second, input)?);
+        }
+    }
+
+    println!("\n## Transcript lines per second\n");
+    println!("`target/bin/transcript` against `second-transcript`, both built for release, each on the same generated lines (seed {SEED}) from a file, output to /dev/null,");
+    println!("wall time of the whole run, the best of {RUNS} runs in turns. `second-transcript` writes each answer by itself; `transcript` writes the answers to up to 126 characters of input together.\n");
+    println!("| lines | times as fast as second-transcript |\n|---|---|");
+    for place in 0..inputs.len() {
+        println!("| {} | {:.2} |", inputs[place].name, theirs[place] / ours[place]);
+    }
+    let speed = theirs[2] / ours[2];
+    goals.add("Transcript lines per second, a million lines, at least 1.0 times", speed >= 1.0, format!("{speed:.2} times"), "");
+
+    println!("\n## Time per line\n");
+    println!("The same runs of `target/bin/transcript`; each smaller input is the beginning of the next larger one. Time for a line, and for a character of input, both against those at {} lines.\n", inputs[0].name);
+    println!("| lines | time per line | time per character |\n|---|---|---|");
+    let mut largest: f64 = 0.0;
+    for (place, input) in inputs.iter().enumerate() {
+        let ratio = |size: [f64; 2]| ours[place] / size[0] / (ours[0] / size[1]);
+        let per_line = ratio([input.lines as f64, inputs[0].lines as f64]);
+        let per_character = ratio([length(input)? as f64, length(&inputs[0])? as f64]);
+        println!("| {} | {per_line:.2} | {per_character:.2} |", input.name);
+        largest = largest.max(per_line);
+    }
+    goals.add(&format!("Time per line flat: at most {FLAT} times that at {} lines", inputs[0].name), largest <= FLAT, format!("{largest:.2} times at the most"), "");
+
+    println!("\n## Memory\n");
+    println!("The most memory that `target/bin/transcript` held (VmHWM) when it had answered all lines and waited for more; the last input is one line of {} million characters.\n", LONG_LINE / 1_000_000);
+    println!("| lines | kB | part of 8 MB |\n|---|---|---|");
+    let mut most = 0;
+    for input in inputs.iter().chain([&long_line(folder)?]) {
+        let memory = memory(transcript, input)?;
+        println!("| {} | {memory} | {:.2} |", input.name, memory as f64 / MOST_MEMORY as f64);
+        most = most.max(memory);
+    }
+    goals.add("Memory under 8 MB", most < MOST_MEMORY, format!("{most} kB at the most"), "");
+    Ok(())
+}
+
+/// The first 10 thousand, 100 thousand and a million of the same lines.
+fn generated(folder: &Path) -> io::Result<Vec<Input>> {
+    let mut inputs = Vec::new();
+    for (lines, name) in SIZES {
+        let file = folder.join(format!("{lines}.in"));
+        let mut out = BufWriter::new(File::create(&file)?);
+        for line in Generator::new(SEED, SIZES[2].0).take(lines) {
+            out.write_all(&line)?;
+            out.write_all(b"\n")?;
+        }
+        out.flush()?;
+        inputs.push(Input { file, name: name.to_string(), lines });
+    }
+    Ok(inputs)
+}
+
+fn long_line(folder: &Path) -> io::Result<Input> {
+    let file = folder.join("long.in");
+    fs::write(&file, [vec![b'0'; LONG_LINE], b"\n".to_vec()].concat())?;
+    Ok(Input { file, name: "one, very long".to_string(), lines: 1 })
+}
+
+fn length(input: &Input) -> io::Result<u64> {
+    Ok(fs::metadata(&input.file)?.len())
+}
+
+fn seconds(program: &str, input: &Input) -> io::Result<f64> {
+    let file = File::open(&input.file)?;
+    let start = Instant::now();
+    let status = Command::new(program).stdin(file).stdout(Stdio::null()).status()?;
+    let time = start.elapsed().as_secs_f64();
+    if status.success() { Ok(time) } else { Err(io::Error::other(format!("{program}: {status}"))) }
+}
+
+fn memory(program: &str, input: &Input) -> io::Result<u64> {
+    let mut child = Command::new(program).stdin(Stdio::piped()).stdout(Stdio::piped()).spawn()?;
+    let mut to_program = child.stdin.take().unwrap();
+    let mut file = File::open(&input.file)?;
+    // The pipe stays open until the memory has been read.
+    let writer = thread::spawn(move || io::copy(&mut file, &mut to_program).map(|_| to_program));
+    read_answers(&mut child, input.lines)?;
+    let to_program = writer.join().unwrap()?;
+    let status = fs::read_to_string(format!("/proc/{}/status", child.id()))?;
+    drop(to_program);
+    child.wait()?;
+    let line = status.lines().find(|line| line.starts_with("VmHWM:"));
+    let number = line.and_then(|line| line.split_whitespace().nth(1)).and_then(|text| text.parse().ok());
+    number.ok_or(io::Error::other("no VmHWM"))
+}
+
+fn read_answers(child: &mut Child, lines: usize) -> io::Result<()> {
+    let from_program = child.stdout.as_mut().unwrap();
+    let mut chunk = vec![0; 1 << 16];
+    let mut answers = 0;
+    while answers < lines {
+        let count = from_program.read(&mut chunk)?;
+        if count == 0 {
+            return Err(io::Error::other("too few answers"));
+        }
+        answers += chunk[..count].iter().filter(|byte| **byte == b'\n').count();
+    }
+    Ok(())
+}
