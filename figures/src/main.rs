@@ -10,7 +10,7 @@ use std::path::Path;
 const TOP: &str = "\
 # Figures
 
-Written by `figures/measure`, all in one run on one machine. Ratios only: times are another machine's on another machine.
+Written by `figures/measure`, all in one run on one machine. Ratios, since times differ from machine to machine.
 ";
 
 fn main() -> std::io::Result<()> {
@@ -21,7 +21,7 @@ fn main() -> std::io::Result<()> {
     };
     let mut goals = Goals::default();
     println!("{TOP}\nProcessor: {}.", processor());
-    if std::env::var("PADONLY").is_err() { transcripts::measure(transcript, second, Path::new(folder), &mut goals)?; }
+    transcripts::measure(transcript, second, Path::new(folder), &mut goals)?;
     padding::measure(&mut goals);
     goals.print();
     Ok(())

@@ -8,6 +8,10 @@ use std::time::Instant;
 const CALLS: usize = 10_000;
 const ROUNDS: usize = 25;
 
+// Why they may be slower, as perf showed it.
+const PADDING_SLOWER: &str = "The message is copied by a loop, the last bytes one by one; plain Rust calls memcpy. Nothing tells the compiler that the archive's slices do not overlap, so it keeps the loop.";
+const STRIPPING_SLOWER: &str = "The zero byte is looked for before the first two bytes are judged, so a block of another type costs as much as a right one.";
+
 extern "C" {
     fn shoalpennant_pad(message: *const u8, message_len: usize, buffer: *mut u8, buffer_len: usize) -> usize;
     fn shoalpennant_strip(block: *const u8, block_len: usize) -> usize;
@@ -37,32 +41,47 @@ fn plain_strip(block: &[u8]) -> usize {
     strip(block)
 }
 
+/// The calls of one function, each with how many times as fast as plain Rust it is.
+struct Table {
+    rows: Vec<(String, f64)>,
+}
+
+impl Table {
+    fn add(&mut self, name: String, ratio: f64) {
+        println!("| {name} | {ratio:.2} |");
+        self.rows.push((name, ratio));
+    }
+
+    fn judge(&self, goals: &mut Goals, name: &str, why: &str) {
+        let least = self.rows.iter().map(|row| row.1).fold(f64::INFINITY, f64::min);
+        let slower: Vec<String> = self.rows.iter().filter(|row| row.1 < 1.0).map(|row| row.0.clone()).collect();
+        let mut measured = format!("{least:.2} times at the least");
+        if !slower.is_empty() {
+            measured += &format!("; slower are: {}", slower.join(", "));
+        }
+        goals.add(&format!("{name} at least 1.0 times as fast, each call"), slower.is_empty(), measured, why);
+    }
+}
+
 pub fn measure(goals: &mut Goals) {
     println!("\n## Padding and stripping\n");
-    println!("Through the archive against the second program's plain Rust, in one process built for release (opt-level 3); neither is inlined. The buffer is not cleared between calls.");
-    println!("The best of {ROUNDS} rounds of {CALLS} calls in turns.\n");
+    println!("Through the archive against the second program's plain Rust, in one process built for release (opt-level 3); neither is inlined. The same slices for both, at each place from 0 to 48 of a cache line");
+    println!("in steps of 16; the buffer is not cleared between calls. The best of {ROUNDS} rounds of {CALLS} calls in turns.\n");
     println!("| call | times as fast as plain Rust |\n|---|---|");
-    let mut padding = Vec::new();
-    for n in [0, 1, 20, 35, 51, 128, 200, 245, 246] {
-        let ratio = pad_ratio(&bytes(n));
-        println!("| pad {n} bytes{} | {ratio:.2} |", if n > 245 { " (refused)" } else { "" });
-        padding.push(ratio);
+    let mut padding = Table { rows: Vec::new() };
+    for n in [0, 1, 20, 35, 51, 128, 200, 245] {
+        padding.add(format!("pad {n}"), pad_ratio(&bytes(n)));
     }
-    let mut stripping = Vec::new();
+    padding.add("pad 246 (refused)".to_string(), pad_ratio(&bytes(246)));
+    let mut stripping = Table { rows: Vec::new() };
     for n in [245, 200, 128, 51, 20, 1, 0] {
-        let ratio = strip_ratio(&block(n));
-        println!("| strip to {n} bytes | {ratio:.2} |");
-        stripping.push(ratio);
+        stripping.add(format!("strip to {n}"), strip_ratio(&block(n)));
     }
-    for (name, block) in [("no zero", [vec![0, 2], vec![7; 254]].concat()), ("a block of the other type", padded())] {
-        let ratio = strip_ratio(&block);
-        println!("| strip, {name} (refused) | {ratio:.2} |");
-        stripping.push(ratio);
-    }
-    for (name, ratios) in [("Padding", padding), ("Stripping", stripping)] {
-        let least = ratios.iter().copied().fold(f64::INFINITY, f64::min);
-        goals.add(&format!("{name} at least 1.0 times, each call"), least >= 1.0, format!("{least:.2} times at the least"), "");
-    }
+    stripping.add("strip without a zero byte (refused)".to_string(), strip_ratio(&[vec![0, 2], vec![7; 254]].concat()));
+    stripping.add("strip a block that begins with 00 01 (refused)".to_string(), strip_ratio(&padded()));
+    println!("\nThe numbers are message bytes. Runs differ by some hundredths. Stripping is a short loop: where the linker puts the archive's, it takes up to a third longer if it crosses a cache line.");
+    padding.judge(goals, "Padding", PADDING_SLOWER);
+    stripping.judge(goals, "Stripping", STRIPPING_SLOWER);
 }
 
 fn bytes(n: usize) -> Vec<u8> {
@@ -80,52 +99,77 @@ fn padded() -> Vec<u8> {
     block
 }
 
-/// Memory in which slices start at known places.
-#[repr(align(64))]
-struct Room([u8; 512]);
+/// Memory in which slices start at known places, so that no two runs differ in that.
+#[repr(align(4096))]
+struct Room {
+    from: [u8; 1024],
+    to: [u8; 1024],
+}
 
-/// Where slices start: everywhere that malloc puts them.
 const PLACES: [usize; 4] = [0, 16, 32, 48];
 
 fn pad_ratio(message: &[u8]) -> f64 {
-    let mut from = Room([0; 512]);
-    let mut to = Room([0xEE; 512]);
-    let mut sums = [0.0; 2];
+    let mut room = Room { from: [0; 1024], to: [0; 1024] };
+    let mut times = Times::default();
     for place in PLACES {
-        let message_place = place..place + message.len();
-        from.0[message_place.clone()].copy_from_slice(message);
-        let message = &from.0[message_place];
-        let buffer = &mut to.0[place..place + BLOCK];
+        let from = &mut room.from[place..place + message.len()];
+        from.copy_from_slice(message);
+        let to = &mut room.to[place..place + BLOCK];
         let mut expected = [0xEE; BLOCK];
-        buffer.fill(0xEE);
-        assert_eq!(plain_pad(message, &mut expected), archive_pad(message, buffer));
-        assert_eq!(buffer, expected);
-        let mut best = [f64::INFINITY; 2];
+        to.fill(0xEE);
+        assert_eq!(archive_pad(from, to), plain_pad(from, &mut expected));
+        assert_eq!(to, expected);
         for _ in 0..ROUNDS {
-            best[0] = best[0].min(seconds(|| archive_pad(black_box(message), black_box(buffer))));
-            best[1] = best[1].min(seconds(|| plain_pad(black_box(message), black_box(buffer))));
+            times.archive(seconds(|| archive_pad(black_box(from), black_box(to))));
+            times.plain(seconds(|| plain_pad(black_box(from), black_box(to))));
         }
-        sums = [sums[0] + best[0], sums[1] + best[1]];
+        times.next_place();
     }
-    sums[1] / sums[0]
+    times.ratio()
 }
 
 fn strip_ratio(block: &[u8]) -> f64 {
-    let mut room = Room([0; 512]);
-    let mut sums = [0.0; 2];
+    let mut room = Room { from: [0; 1024], to: [0; 1024] };
+    let mut times = Times::default();
     for place in PLACES {
-        let block_place = place..place + block.len();
-        room.0[block_place.clone()].copy_from_slice(block);
-        let block = &room.0[block_place];
-        assert_eq!(archive_strip(block), plain_strip(block));
-        let mut best = [f64::INFINITY; 2];
+        let from = &mut room.from[place..place + block.len()];
+        from.copy_from_slice(block);
+        assert_eq!(archive_strip(from), plain_strip(from));
         for _ in 0..ROUNDS {
-            best[0] = best[0].min(seconds(|| archive_strip(black_box(block))));
-            best[1] = best[1].min(seconds(|| plain_strip(black_box(block))));
+            times.archive(seconds(|| archive_strip(black_box(from))));
+            times.plain(seconds(|| plain_strip(black_box(from))));
         }
-        sums = [sums[0] + best[0], sums[1] + best[1]];
+        times.next_place();
     }
-    sums[1] / sums[0]
+    times.ratio()
+}
+
+/// The best times of the two, summed over the places.
+#[derive(Default)]
+struct Times {
+    archive: Option<f64>,
+    plain: Option<f64>,
+    archive_sum: f64,
+    plain_sum: f64,
+}
+
+impl Times {
+    fn archive(&mut self, time: f64) {
+        self.archive = Some(self.archive.unwrap_or(time).min(time));
+    }
+
+    fn plain(&mut self, time: f64) {
+        self.plain = Some(self.plain.unwrap_or(time).min(time));
+    }
+
+    fn next_place(&mut self) {
+        self.archive_sum += self.archive.take().unwrap_or(0.0);
+        self.plain_sum += self.plain.take().unwrap_or(0.0);
+    }
+
+    fn ratio(&self) -> f64 {
+        self.plain_sum / self.archive_sum
+    }
 }
 
 fn seconds(mut call: impl FnMut() -> usize) -> f64 {

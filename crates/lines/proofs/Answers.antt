@@ -13,8 +13,8 @@ use Rattle.octets.proofs.Strings.{take-filled}
 use Rattle.hex.specs.Hex.{isHex, bytesOf}
 use Rattle.hex.proofs.Laws.{length-bytesOf, length-bytesOf-div}
 use Rattle.rules.specs.declared.Card.{Card}
-use Rattle.rules.specs.Edge.{powerReset}
-use Rattle.lines.specs.Lines.{Said, command-of, delivery-of, lineFeed, said, answerTo, callOf, callAnswer, requestOf, answerLine}
+use Rattle.rules.specs.Edge.{delivery, powerReset}
+use Rattle.lines.specs.Lines.{Said, command-of, lineFeed, said, answerTo, callOf, callAnswer, requestOf, answerLine}
 
 -- The bytes that a line's hex says, read from the room that they were written to.
 pub call-read : (rest : Bytes) → isHex rest ≡ true → length rest ≤ 1024 → {room call : Bytes} → room ≡ filled 512 (bytesOf (take 1024 rest)) → call ≡ take (length rest / 2) room
@@ -37,8 +37,8 @@ module _ (c : Card) (authentication signature line : Bytes) where
     by-command i = simp (← e, ← l, eq-eqb letter 0x43 i)
 
     module _ (n : letter ≢ 0x43) where
-      pub by-delivery : letter ≡ 0x44 → answerTo c authentication signature (delivery-of call) ≡ calling
-      unfolding callOf
+      pub by-delivery : letter ≡ 0x44 → said (delivery c call (blank 258) .0) (delivery c call (blank 258) .1) ≡ calling
+      unfolding callOf answerTo
       by-delivery i = simp (← e, ← l, ne-eqb letter 0x43 n, eq-eqb letter 0x44 i)
 
       pub by-no-letter : letter ≢ 0x44 → unsaid ≡ calling

@@ -14,9 +14,9 @@ ghost use Rattle.octets.specs.Octets.{blank};
 ghost use Rattle.hex.specs.Hex.{isHex, hexOf};
 ghost use Rattle.text.specs.Text.{textOf};
 ghost use Rattle.rules.specs.Keys.{kindNumber};
-ghost use Rattle.rules.specs.Edge.{refusalNumber};
+ghost use Rattle.rules.specs.Edge.{refusalNumber, delivery};
 ghost use Rattle.rules.specs.declared.Reply.the-variants.{Refused, Response, HandedOut};
-ghost use Rattle.lines.specs.Lines.{command-of, delivery-of, lineFeed, numeral, replyText, said, answerTo, callAnswer, answerLine, saidOf};
+ghost use Rattle.lines.specs.Lines.{command-of, lineFeed, numeral, replyText, said, answerTo, callAnswer, answerLine, saidOf};
 
 // The next card and an output line.
 pub struct Answered {
@@ -67,8 +67,8 @@ fn response_line(n: usize, buffer: [u8; 258]) -> Text
 }
 
 // J, the kind, a space and the key.
-fn job_line(kind: JobKind, key: u16, buffer: [u8; 258]) -> Text
-    ensures { λ r. ⌜ textOf r ≡ replyText (HandedOut kind key) buffer ++ lineFeed ∷ [] ⌝ }
+fn job_line(kind: JobKind, key: u16) -> Text
+    ensures { λ r. ⌜ textOf r ≡ replyText (HandedOut kind key) [] ++ lineFeed ∷ [] ⌝ }
 {
     let head = [b'J', kind_numeral(kind), b' '];
     let named = text::with(text::empty(), &head);
@@ -78,8 +78,8 @@ fn job_line(kind: JobKind, key: u16, buffer: [u8; 258]) -> Text
 }
 
 // H and the edge number.
-fn refusal_line(refusal: Refusal, buffer: [u8; 258]) -> Text
-    ensures { λ r. ⌜ textOf r ≡ replyText (Refused refusal) buffer ++ lineFeed ∷ [] ⌝ }
+fn refusal_line(refusal: Refusal) -> Text
+    ensures { λ r. ⌜ textOf r ≡ replyText (Refused refusal) [] ++ lineFeed ∷ [] ⌝ }
 {
     let head = [b'H', refusal_numeral(refusal), b'\n'];
     text::with(text::empty(), &head)
@@ -92,8 +92,8 @@ fn reply_line(reply: Reply, buffer: [u8; 258]) -> Text
     match reply {
         Reply::WasReset => text::with(text::empty(), b"P\n"),
         Reply::Response(n) => response_line(n, buffer),
-        Reply::HandedOut(kind, key) => job_line(kind, key, buffer),
-        Reply::Refused(refusal) => refusal_line(refusal, buffer),
+        Reply::HandedOut(kind, key) => job_line(kind, key),
+        Reply::Refused(refusal) => refusal_line(refusal),
     }
 }
 
@@ -127,7 +127,7 @@ fn blank_258() -> [u8; 258]
     [0u8; 258]
 }
 
-// A command with its hex, and a delivery with its hex.
+// A command, and a delivery, by its bytes.
 fn answer_command<'a>(
     card: Card,
     apdu: &'a [u8],
@@ -141,13 +141,8 @@ fn answer_command<'a>(
     shown(outcome, buffer)
 }
 
-fn answer_delivery<'a>(
-    card: Card,
-    result: &'a [u8],
-    authentication: &'a [u8],
-    signature: &'a [u8],
-) -> Answered
-    ensures { λ r. ⌜ saidOf r ≡ answerTo card (now (authentication .entry)) (now (signature .entry)) (delivery-of (now (result .entry))) ⌝ }
+fn answer_delivery(card: Card, result: &[u8]) -> Answered
+    ensures { λ r. ⌜ saidOf r ≡ said (delivery card (now (result .entry)) (blank 258) .0) (delivery card (now (result .entry)) (blank 258) .1) ⌝ }
 {
     let mut buffer = blank_258();
     let outcome = card::delivery(card, result, &mut buffer);
@@ -172,7 +167,7 @@ fn answer_call<'a>(
         return answer_command(card, call, authentication, signature);
     }
     if letter == b'D' {
-        return answer_delivery(card, call, authentication, signature);
+        return answer_delivery(card, call);
     }
     unanswered(card)
 }

@@ -1,7 +1,7 @@
 // Slices of bytes: what is asked of them, and what is written into them. Every function takes every input.
 // The definitions that the contracts cite stand in specs/, their laws in proofs/.
 ghost use mathlib.Core.Path.{_≡_};
-ghost use Prim.Native.Nat.{_-_, _/_, _%_, min};
+ghost use Prim.Native.Nat.{_+_, _-_, _/_, _%_, min};
 ghost use lib.ListN.{take, drop, replicate};
 ghost use Rattle.octets.specs.Octets.{byteAt, word, same, allDigits, allZero, pasted};
 
@@ -86,6 +86,19 @@ fn fitting(len: usize, at: usize, n: usize) -> usize
         return room;
     }
     n
+}
+
+// The sum of two numbers, and at most a third.
+pub fn sum_within(a: usize, b: usize, most: usize) -> usize
+    ensures { λ r. ⌜ r ≡ min (a + b) most ⌝ }
+{
+    if most <= a {
+        return most;
+    }
+    if most - a < b {
+        return most;
+    }
+    a + b
 }
 
 // Copies into dst, from index `at` on, as much of src as fits.

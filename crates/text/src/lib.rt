@@ -2,7 +2,6 @@
 ghost use mathlib.Core.Path.{_≡_};
 ghost use mathlib.Core.List.{[], _++_};
 ghost use lib.ListN.{take};
-ghost use Prim.Native.Nat.{_+_, min};
 ghost use Rattle.octets.specs.Octets.{blank, filled};
 ghost use Rattle.text.specs.Text.{textOf};
 
@@ -36,19 +35,6 @@ pub fn empty() -> Text
     }
 }
 
-// The sum of two lengths, and at most 1,025.
-fn sum(a: usize, b: usize) -> usize
-    ensures { λ r. ⌜ r ≡ min 1025 (a + b) ⌝ }
-{
-    if 1025 <= a {
-        return 1025;
-    }
-    if 1025 - a < b {
-        return 1025;
-    }
-    a + b
-}
-
 // A text with more characters behind it, as many as fit.
 pub fn with(t: Text, d: &[u8]) -> Text
     ensures { λ r. ⌜ textOf r ≡ take 1025 (textOf t ++ now (d .entry)) ⌝ }
@@ -58,7 +44,7 @@ pub fn with(t: Text, d: &[u8]) -> Text
     let front = octets::part(&bytes, 0, len);
     let mut both = filled_1025(front);
     octets::copy_at(&mut both, front.len(), d);
-    let whole = sum(front.len(), d.len());
+    let whole = octets::sum_within(front.len(), d.len(), 1025);
     Text {
         bytes: both,
         len: whole,

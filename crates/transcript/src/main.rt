@@ -17,7 +17,6 @@ struct Answered {
 // Answers what was read, piece by piece.
 fn answer_pieces(talk: Talk, input: &[u8], output: &mut [u8]) -> Answered {
     let mut next = talk;
-    let mut written = true;
     let mut at = 0;
     while at < input.len() {
         let piece = octets::part(input, at, PIECE);
@@ -29,20 +28,25 @@ fn answer_pieces(talk: Talk, input: &[u8], output: &mut [u8]) -> Answered {
             output,
         );
         next = fed.talk;
-        let done = io::write_all(STDOUT_FILENO, octets::part(output, 0, fed.written));
-        written = written & done;
+        if !io::write_all(STDOUT_FILENO, octets::part(output, 0, fed.written)) {
+            return Answered {
+                talk: next,
+                written: false,
+            };
+        }
         at += piece.len();
     }
     Answered {
         talk: next,
-        written: written,
+        written: true,
     }
 }
 
-// The program after one more reading, and whether to go on.
+// The program after one more reading, whether to go on, and whether the input has ended.
 struct Turn {
     talk: Talk,
     more: bool,
+    ended: bool,
 }
 
 // Reads once, and answers what came.
@@ -54,28 +58,31 @@ fn read_some(talk: Talk, input: &mut [u8], output: &mut [u8]) -> Turn {
     Turn {
         talk: next,
         more: answered.written & (0 < got),
+        ended: got == 0,
     }
 }
 
 // A proved loop has to end, and nothing says that the input does. So the loop counts its turns down, from a number that no run uses up.
-fn read_all(input: &mut [u8], output: &mut [u8]) -> Talk {
+fn read_all(input: &mut [u8], output: &mut [u8]) -> Turn {
     let mut talk = transcripts::first_talk();
     let mut left = u64::MAX;
     while 0 < left {
         let turn = read_some(talk, input, output);
-        talk = turn.talk;
         if !turn.more {
-            return talk;
+            return turn;
         }
+        talk = turn.talk;
         left -= 1;
     }
-    talk
+    Turn {
+        talk: talk,
+        more: false,
+        ended: false,
+    }
 }
 
-fn main() {
-    let mut input = io::large_buffer();
-    let mut output = [0u8; 524288];
-    let talk = read_all(&mut input, &mut output);
+// The last line, where the input has ended within it.
+fn answer_last(talk: Talk) {
     let last = transcripts::last_line(
         talk,
         &certificates::AUTHENTICATION,
@@ -83,4 +90,14 @@ fn main() {
     );
     let bytes = last.bytes;
     io::write_all(STDOUT_FILENO, octets::part(&bytes, 0, last.len));
+}
+
+// A read or a write that fails ends the program there.
+fn main() {
+    let mut input = io::large_buffer();
+    let mut output = [0u8; 524288];
+    let turn = read_all(&mut input, &mut output);
+    if turn.ended {
+        answer_last(turn.talk);
+    }
 }

@@ -15,7 +15,7 @@ use Rattle.octets.proofs.Cutting.{cut-front}
 use Rattle.octets.specs.Octets.{Bytes, byteAt}
 use Rattle.octets.proofs.Tests.{by-test}
 use Rattle.lines.specs.Lines.{Said, lineFeed}
-use Rattle.transcripts.specs.Transcript.{Program, Run, longer, writtenBefore, atLineEnd, run, lastLine, lineLength}
+use Rattle.transcripts.specs.Transcript.{Program, Run, longer, writtenBefore, atLineEnd, runWith, run, lastLine, lineLength}
 
 -- The characters before the first line feed: none is left, the one at the index is a line feed, or it is another.
 module _ (s : Bytes) (i : ℕ) where
@@ -42,15 +42,15 @@ module _ (authentication signature : Bytes) where
   oneMore p x = record { card = p .card; line = longer (p .line) (x ∷ []) }
 
   pub at-feed : (p : Program) (x : ℕ) (b : Bytes) → eqb x lineFeed ≡ true → reading p (x ∷ b) ≡ writtenBefore (answered p .text) (reading (nextLine p) b)
-  unfolding run
+  unfolding runWith
   at-feed p x b e = rw e
 
   pub at-other : (p : Program) (x : ℕ) (b : Bytes) → eqb x lineFeed ≡ false → reading p (x ∷ b) ≡ reading (oneMore p x) b
-  unfolding run
+  unfolding runWith
   at-other p x b e = rw e
 
   pub at-end : (p : Program) → reading p [] ≡ record { program = p; text = [] }
-  unfolding run
+  unfolding runWith
   at-end p = refl
 
   -- An input read in two parts.

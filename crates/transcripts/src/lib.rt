@@ -2,7 +2,7 @@
 use rules::Card;
 use text::Text;
 ghost use mathlib.Core.Path.{_≡_};
-ghost use Prim.Native.Nat.{_+_, _≤_, min};
+ghost use Prim.Native.Nat.{_≤_};
 ghost use lib.ListN.{length, take};
 ghost use Rattle.text.specs.Text.{textOf};
 ghost use Rattle.transcripts.specs.Transcript.{run, lastLine, lineLength, lineTaken, fed, start, programOf, runOf, fedOf};
@@ -84,19 +84,6 @@ pub struct Fed {
     pub written: usize,
 }
 
-// The sum of two lengths, and at most a third.
-fn within(a: usize, b: usize, most: usize) -> usize
-    ensures { λ r. ⌜ r ≡ min (a + b) most ⌝ }
-{
-    if most <= a {
-        return most;
-    }
-    if most - a < b {
-        return most;
-    }
-    a + b
-}
-
 // Input answered line by line; what fits of the output stands at the front of the buffer.
 pub fn feed<'a>(
     talk: Talk,
@@ -123,7 +110,7 @@ pub fn feed<'a>(
         let len = text.len;
         let shown = octets::part(&bytes, 0, len);
         octets::copy_at(buffer, written, shown);
-        written = within(written, shown.len(), buffer.len());
+        written = octets::sum_within(written, shown.len(), buffer.len());
         next = first.talk;
         at += taken;
     }

@@ -3,7 +3,7 @@ use denote.Ref.{now}
 use Rattle.octets.specs.Octets.{Bytes}
 use Rattle.rules.specs.declared.Outcome.{Outcome}
 use Rattle.rules.specs.Edge.{delivery}
-use Rattle.lines.specs.Lines.{said, answerTo}
+use Rattle.lines.specs.Lines.{said}
 use borrow.Author.Needs.{needs}
 use Rattle.lines.proofs.answer_delivery.Statement.{statement}
 use Rattle.lines.proofs.answer_delivery.Tie as tie
@@ -21,9 +21,8 @@ shown-requires : tie.Need-shown-requires
 shown-requires c κs = search needs
 
 returns : tie.Need-returns
-unfolding answerTo
 returns c =
-    let a = c .before .before .before .before .before .before .before .before .args in
+    let a = c .before .before .before .before .before .before .args in
     c .shown .ensures ∙ ap (λ (x : Outcome × Bytes). said (x .0) (x .1)) (c .before .before .delivery .ensures ∙ ap (delivery (a .card) (now (a .result))) (c .before .before .before .before .blank-258 .ensures))
 
 pub answer-delivery-spec : {M : Type 1} → statement M

@@ -41,9 +41,11 @@ returns-2 : tie.Need-returns-2
 returns-2 c = rw (c .before .before .reply .given .1) (c .response-line .ensures)
 
 returns-3 : tie.Need-returns-3
+unfolding replyText
 returns-3 c = rw (c .before .before .reply2 .given .1) (c .job-line .ensures)
 
 returns-4 : tie.Need-returns-4
+unfolding replyText
 returns-4 c = rw (c .before .before .reply3 .given .1) (c .refusal-line .ensures)
 
 pub reply-line-spec : {M : Type 1} → statement M

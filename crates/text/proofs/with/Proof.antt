@@ -27,8 +27,8 @@ slice-aggregate-copy-at c = search needs
 copy-at-requires : tie.Need-copy-at-requires
 copy-at-requires c κs = search needs
 
-sum-requires : tie.Need-sum-requires
-sum-requires c κs = search needs
+sum-within-requires : tie.Need-sum-within-requires
+sum-within-requires c κs = search needs
 
 returns : tie.Need-returns
 returns c =
@@ -37,7 +37,7 @@ returns c =
     let d : Bytes = now (a .d) in
     let x : Bytes = take 1025 (textOf (a .t) ++ d) in
     let both = front-then 1025 (a .t .len) (a .t .bytes) (slice-aggregate-part (c .before .before .before .before .before .before)) (c .before .before .before .before .before .part .ensures) d (c .before .before .before .before .filled-1025 .ensures) (c .before .before .copy-at .ensures) in
-    let size : c .sum .result ≡ length x = c .sum .ensures ∙ joined-length front d (c .before .before .before .before .before .part .ensures) in
+    let size : c .sum-within .result ≡ length x = c .sum-within .ensures ∙ joined-length front d (c .before .before .before .before .before .part .ensures) in
     rw (both, size) (take-filled 1025 x (omega (arith, length-take 1025 (textOf (a .t) ++ d))))
 
 pub with-spec : {M : Type 1} → statement M
@@ -49,5 +49,5 @@ with-spec =
     filled-1025-requires
     slice-aggregate-copy-at
     copy-at-requires
-    sum-requires
+    sum-within-requires
     returns)

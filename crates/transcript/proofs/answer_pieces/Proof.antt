@@ -9,10 +9,10 @@ use Rattle.transcript.proofs.answer_pieces.Statement.{statement}
 use Rattle.transcript.proofs.answer_pieces.Tie as tie
 
 abbrev Inv-loop : tie.InvT-loop
-Inv-loop input output₀ next₀ written₀ at₀ t10 t11 output next written at = (at ≤ length input) × (length output ≡ length output₀)
+Inv-loop input output₀ next₀ at₀ t8 t9 output next at = (at ≤ length input) × (length output ≡ length output₀)
 
 abbrev μ-loop : tie.MeasureT-loop
-μ-loop input output₀ next₀ written₀ at₀ t10 t11 output next written at = length input - at
+μ-loop input output₀ next₀ at₀ t8 t9 output next at = length input - at
 
 loop-holds : tie.Need-loop-holds Inv-loop μ-loop
 loop-holds c = (omega arith, refl)
@@ -41,20 +41,26 @@ part-requires-2 c κs = search needs
 write-all-requires : tie.Need-write-all-requires Inv-loop μ-loop
 write-all-requires c κs = search needs
 
-add-at : tie.Need-add-at Inv-loop μ-loop
-add-at c = omega (arith, goes-on (c .before .before .before .before .before .before .before .before .before .before), c .before .before .before .before .before .before .before .before .before .before .before .before .before .before .before .good .1)
-
-loop-less : tie.Need-loop-less Inv-loop μ-loop
-loop-less c = omega (arith, goes-on (c .before .before .before .before .before .before .before .before .before .before))
-
-loop-again : tie.Need-loop-again Inv-loop μ-loop
-loop-again c = (goes-on (c .before .before .before .before .before .before .before .before .before .before) .1, omega (arith, c .before .before .before .before .before .before .feed .kept .1, c .before .before .before .before .before .before .before .before .before .before .before .before .loop .inv .1))
-
 same-length : tie.Need-same-length Inv-loop μ-loop
-same-length c = c .before .loop .inv .1
+same-length c = omega (arith, c .before .before .before .before .before .before .before .feed .kept .1, c .before .before .before .before .before .before .before .before .before .before .before .before .before .loop .inv .1)
 
 returns : tie.Need-returns Inv-loop μ-loop
 returns c = tt
+
+add-at : tie.Need-add-at Inv-loop μ-loop
+add-at c = omega (arith, goes-on (c .before .before .before .before .before .before .before .before .before .before .before), c .before .before .before .before .before .before .before .before .before .before .before .before .before .before .before .before .good .1)
+
+loop-less : tie.Need-loop-less Inv-loop μ-loop
+loop-less c = omega (arith, goes-on (c .before .before .before .before .before .before .before .before .before .before .before))
+
+loop-again : tie.Need-loop-again Inv-loop μ-loop
+loop-again c = (goes-on (c .before .before .before .before .before .before .before .before .before .before .before) .1, omega (arith, c .before .before .before .before .before .before .before .feed .kept .1, c .before .before .before .before .before .before .before .before .before .before .before .before .before .loop .inv .1))
+
+same-length-2 : tie.Need-same-length-2 Inv-loop μ-loop
+same-length-2 c = c .before .loop .inv .1
+
+returns-2 : tie.Need-returns-2 Inv-loop μ-loop
+returns-2 c = tt
 
 pub answer-pieces-spec : {M : Type 1} → statement M
 answer-pieces-spec =
@@ -69,8 +75,10 @@ answer-pieces-spec =
     feed-requires
     part-requires-2
     write-all-requires
+    same-length
+    returns
     add-at
     loop-less
     loop-again
-    same-length
-    returns)
+    same-length-2
+    returns-2)

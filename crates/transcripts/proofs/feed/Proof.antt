@@ -48,8 +48,8 @@ part-requires-2 c κs = search needs
 copy-at-requires : tie.Need-copy-at-requires Inv-loop μ-loop
 copy-at-requires c κs = search needs
 
-within-requires : tie.Need-within-requires Inv-loop μ-loop
-within-requires c κs = search needs
+sum-within-requires : tie.Need-sum-within-requires Inv-loop μ-loop
+sum-within-requires c κs = search needs
 
 add-at : tie.Need-add-at Inv-loop μ-loop
 add-at c = omega (arith, goes-on (c .before .before .before .before .before .before .before .before .before .before), c .before .before .before .before .before .before .before .before .before .before .before .before .before .before .before .before .before .before .good .1)
@@ -68,7 +68,7 @@ loop-again c =
       size ∙ c .before .before .before .before .before .before .before .before .before .before .before .before .before .loop .inv .1,
       reached-more (now (a .authentication)) (now (a .signature)) (programOf (a .talk)) (now (a .input)) (now (a .buffer)) (c .before .before .before .before .before .before .before .before .before .before .before .before .before .loop .inv .2) (c .before .before .before .before .before .before .before .before .before .before .before .before .before .loop .inv .1) (f .first-line .result .taken) (runOf (f .first-line .result)) line
           (c .before .before .before .before .copy-at .ensures ∙ ap (pasted (c .before .before .before .before .before .before .before .before .before .before .before .before .before .loop .buffer) (c .before .before .before .before .before .before .before .before .before .before .before .before .before .loop .written)) (c .before .before .before .before .before .before .part2 .ensures))
-          (c .before .within .ensures ∙ ap₂ (λ (n m : ℕ). min (c .before .before .before .before .before .before .before .before .before .before .before .before .before .loop .written + n) m) (ap length (c .before .before .before .before .before .before .part2 .ensures)) size),
+          (c .before .sum-within .ensures ∙ ap₂ (λ (n m : ℕ). min (c .before .before .before .before .before .before .before .before .before .before .before .before .before .loop .written + n) m) (ap length (c .before .before .before .before .before .before .part2 .ensures)) size),
     )
 
 same-length : tie.Need-same-length Inv-loop μ-loop
@@ -91,7 +91,7 @@ feed-spec =
     slice-aggregate-part
     part-requires-2
     copy-at-requires
-    within-requires
+    sum-within-requires
     add-at
     loop-less
     loop-again
