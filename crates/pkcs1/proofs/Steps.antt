@@ -1,7 +1,7 @@
 -- What the proofs of the functions cite: a block written piece by piece, and a search for the first zero.
-use mathlib.Core.Path.{_≡_, refl, ap}
+use mathlib.Core.Path.{_≡_, refl, sym, ap}
 use mathlib.Core.Logic.{_≢_}
-use mathlib.Core.Bool.{Bool, cond, _&&_}
+use mathlib.Core.Bool.{Bool, _&&_, _||_, cond, false, false≢true, not, true}
 use mathlib.Core.List.{[], _∷_, _++_}
 use Prim.Native.Nat.{ℕ, suc, _+_, _-_, _<_, _≤_}
 use native.Mathlib.Numerals.{add-one}
@@ -35,6 +35,22 @@ unfolding beforeZero
 before-most [] = omega arith
 before-most (x ∷ s) = by-test (beforeZero (x ∷ s) ≤ suc (length s)) (eqb x 0) (λ e. rw e (omega arith)) (λ e. rw e (omega (arith, before-most s)))
 
+-- The two bytes that tell a block's type, judged before the rest of the block.
+type-lost : (l x y s t : Bool) → (not x || not y) ≡ true → (l && x && y && s && t) ≡ false
+type-lost false x y s t e = refl
+type-lost true false y s t e = refl
+type-lost true true false s t e = refl
+type-lost true true true s t e = absurd (false≢true e)
+
+type-kept : (x y s t : Bool) → (not x || not y) ≡ false → (x && y && s && t) ≡ (s && t)
+type-kept true true s t e = refl
+type-kept true false s t e = absurd (false≢true (sym e))
+type-kept false y s t e = absurd (false≢true (sym e))
+
+pub strip-type : (b : Bytes) → (not (eqb (byteAt b 0) 0x00) || not (eqb (byteAt b 1) 0x02)) ≡ true → strip b ≡ 0
+unfolding strip enciphered
+strip-type b e = rw (type-lost (eqb (length b) 256) (eqb (byteAt b 0) 0x00) (eqb (byteAt b 1) 0x02) (leb 8 (beforeZero (drop 2 b))) (ltb (beforeZero (drop 2 b)) 254) e)
+
 -- Stripping, where the zero was looked for behind the first two bytes: how many bytes stand before it, and the answer by the test of the block.
 module _ (b : Bytes) (n : ℕ) (found : n ≡ beforeZero (take (length b - 2) (drop 2 b))) where
   rest : take (length b - 2) (drop 2 b) ≡ drop 2 b
@@ -43,9 +59,10 @@ module _ (b : Bytes) (n : ℕ) (found : n ≡ beforeZero (take (length b - 2) (d
   pub before-fits : n ≤ length b - 2
   before-fits = omega (arith, found, ap beforeZero rest, before-most (drop 2 b), length-drop 2 b)
 
-  pub strip-by : length b ≡ 256 → (t : Bool) → (eqb (byteAt b 0) 0x00 && eqb (byteAt b 1) 0x02 && leb 8 n && ltb n 254) ≡ t → strip b ≡ cond t (n + 3) 0
+  pub strip-by : length b ≡ 256 → (not (eqb (byteAt b 0) 0x00) || not (eqb (byteAt b 1) 0x02)) ≡ false → (t : Bool) → (leb 8 n && ltb n 254) ≡ t → strip b ≡ cond t (n + 3) 0
   unfolding strip enciphered
-  strip-by e t h = rw (eq-eqb (length b) 256 e, ← rest, ← found, h)
+  strip-by e k t h =
+      rw (eq-eqb (length b) 256 e, ← rest, ← found, type-kept (eqb (byteAt b 0) 0x00) (eqb (byteAt b 1) 0x02) (leb 8 n) (ltb n 254) k, h)
 
 opened : (buffer : Bytes) → 2 ≤ length buffer → set (set buffer 0 0x00) 1 0x01 ≡ 0x00 ∷ 0x01 ∷ drop 2 buffer
 opened [] h = absurd (omega arith)

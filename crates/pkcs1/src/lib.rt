@@ -54,7 +54,13 @@ pub extern "C" fn shoalpennant_strip(block: &[u8]) -> usize
     if block.len() != BLOCK {
         return 0;
     }
+    if (block[0] != 0x00) | (block[1] != 0x02) {
+        return 0;
+    }
     let n = before_zero(&block[2..]);
-    let enciphered = (block[0] == 0x00) & (block[1] == 0x02) & (LEAST <= n) & (n < BLOCK - 2);
-    if enciphered { n + 3 } else { 0 }
+    if (LEAST <= n) & (n < BLOCK - 2) {
+        n + 3
+    } else {
+        0
+    }
 }
