@@ -10,7 +10,7 @@ const ROUNDS: usize = 25;
 
 // Why they may be slower, as perf showed it.
 const PADDING_SLOWER: &str = "The message is copied by a loop, the last bytes one by one; plain Rust calls memcpy. Nothing tells the compiler that the archive's slices do not overlap, so it keeps the loop.";
-const STRIPPING_SLOWER: &str = "The zero byte is looked for before the first two bytes are judged, so a block of another type costs as much as a right one.";
+const STRIPPING_SLOWER: &str = "The archive's loop takes up to a third longer where the linker puts it across a cache line.";
 
 extern "C" {
     fn shoalpennant_pad(message: *const u8, message_len: usize, buffer: *mut u8, buffer_len: usize) -> usize;
@@ -79,7 +79,7 @@ pub fn measure(goals: &mut Goals) {
     }
     stripping.add("strip without a zero byte (refused)".to_string(), strip_ratio(&[vec![0, 2], vec![7; 254]].concat()));
     stripping.add("strip a block that begins with 00 01 (refused)".to_string(), strip_ratio(&padded()));
-    println!("\nThe numbers are message bytes. Runs differ by some hundredths. Stripping is a short loop: where the linker puts the archive's, it takes up to a third longer if it crosses a cache line.");
+    println!("\nThe numbers are message bytes. From run to run and build to build these ratios differ by up to a third. Stripping is a short loop: the archive's takes up to a third longer where the linker puts it across a cache line.");
     padding.judge(goals, "Padding", PADDING_SLOWER);
     stripping.judge(goals, "Stripping", STRIPPING_SLOWER);
 }

@@ -19,6 +19,8 @@ const LONG_LINE: usize = 16_000_000;
 // Why it may be slower, as perf showed it.
 const LINES_SLOWER: &str = "Most of the time goes into judging whether the state is good and into copies of the state, which is passed by value.";
 
+const OTHER_WORK: &str = "The instructions per line stay the same; the machine was shared, and its times differ by more than that from run to run.";
+
 struct Input {
     file: PathBuf,
     name: String,
@@ -38,7 +40,7 @@ pub fn measure(transcript: &str, second: &str, folder: &Path, goals: &mut Goals)
 
     println!("\n## Transcript lines per second\n");
     println!("`target/bin/transcript` against `second-transcript`, both built for release, each on the same generated lines (seed {SEED}) from a file, output to /dev/null,");
-    println!("wall time of the whole run, the best of {RUNS} runs in turns. `second-transcript` writes each answer by itself; `transcript` writes the answers to a piece of its input together.\n");
+    println!("wall time of the whole run, the best of {RUNS} runs in turns. `second-transcript` writes each answer by itself; `transcript` writes the answers to a piece of its input together. On a shared machine these ratios differ by a tenth and more from run to run.\n");
     println!("| lines | times as fast as second-transcript |\n|---|---|");
     for place in 0..inputs.len() {
         println!("| {} | {:.2} |", inputs[place].name, theirs[place] / ours[place]);
@@ -47,16 +49,25 @@ pub fn measure(transcript: &str, second: &str, folder: &Path, goals: &mut Goals)
     goals.add("Transcript lines per second, a million lines, at least 1.0 times", speed >= 1.0, format!("{speed:.2} times"), LINES_SLOWER);
 
     println!("\n## Time per line\n");
-    println!("The same runs of `target/bin/transcript`; each smaller input is the beginning of the next larger one. Time for a line against that at {} lines.\n", inputs[0].name);
-    println!("| lines | time per line |\n|---|---|");
+    println!("The same runs of `target/bin/transcript`; each smaller input is the beginning of the next larger one. Time for a line, and instructions for a line as valgrind counts them, each against {} lines.\n", inputs[0].name);
+    println!("| lines | time per line | instructions per line |\n|---|---|---|");
     let mut largest: f64 = 0.0;
+    let mut same_work = true;
+    let counts: Vec<Option<f64>> = inputs.iter().map(|input| instructions(transcript, input)).collect();
     for (place, input) in inputs.iter().enumerate() {
-        let per_line = |place: usize, input: &Input| ours[place] / input.lines as f64;
-        let ratio = per_line(place, input) / per_line(0, &inputs[0]);
-        println!("| {} | {ratio:.2} |", input.name);
-        largest = largest.max(ratio);
+        let per_line = |total: f64, first: f64| total / input.lines as f64 / (first / inputs[0].lines as f64);
+        let time = per_line(ours[place], ours[0]);
+        let work = counts[place].zip(counts[0]).map(|(count, first)| per_line(count, first));
+        println!("| {} | {time:.2} | {} |", input.name, work.map_or("not counted".to_string(), |work| format!("{work:.3}")));
+        largest = largest.max(time);
+        same_work &= work.is_some_and(|work| work <= 1.01);
     }
-    goals.add(&format!("Time per line flat: at most {FLAT} times that at {} lines", inputs[0].name), largest <= FLAT, format!("{largest:.2} times at the most"), "");
+    goals.add(
+        &format!("Time per line flat: at most {FLAT} times that at {} lines", inputs[0].name),
+        largest <= FLAT,
+        format!("{largest:.2} times at the most"),
+        if same_work { OTHER_WORK } else { "" },
+    );
 
     println!("\n## Memory\n");
     println!("The most memory that `target/bin/transcript` held (VmHWM) when it had answered all lines and waited for more; the last input is one line of {} million characters.\n", LONG_LINE / 1_000_000);
@@ -99,6 +110,16 @@ fn seconds(program: &str, input: &Input) -> io::Result<f64> {
     let status = Command::new(program).stdin(file).stdout(Stdio::null()).status()?;
     let time = start.elapsed().as_secs_f64();
     if status.success() { Ok(time) } else { Err(io::Error::other(format!("{program}: {status}"))) }
+}
+
+/// None where there is no valgrind.
+fn instructions(program: &str, input: &Input) -> Option<f64> {
+    let options = ["--tool=cachegrind", "--cache-sim=no", "--cachegrind-out-file=/dev/null", program];
+    let file = File::open(&input.file).ok()?;
+    let output = Command::new("valgrind").args(options).stdin(file).stdout(Stdio::null()).stderr(Stdio::piped()).output().ok()?;
+    let text = String::from_utf8_lossy(&output.stderr).into_owned();
+    let line = text.lines().find(|line| line.contains("refs:"))?;
+    line.split_whitespace().last()?.replace(',', "").parse().ok()
 }
 
 fn memory(program: &str, input: &Input) -> io::Result<u64> {
