@@ -14,10 +14,11 @@ use Rattle.octets.proofs.Tests.{by-test}
 use Rattle.rules.specs.declared.Fault.{Fault}
 use Rattle.rules.specs.declared.Fault.the-variants.{EndsEarly, WrongCount, LeftOver}
 use Rattle.rules.specs.Image.{Read, got, fault, Reader, continued, pure, require, byteIf, anyByte, bytesIf, count, end}
-use Rattle.image.specs.declared.NextByte.the-variants.{Byte, End}
+use Rattle.image_reader.specs.declared.NextByte.the-variants.{Byte, End}
+use Rattle.image_reader.specs.Reading.{nextAt}
 use Rattle.image.specs.declared.Cursor.{Cursor}
 use Rattle.image.specs.declared.Cursor.the-variants.{At, Stopped}
-use Rattle.image.specs.Positions.{nextAt, from, upTo, positionOf, judged}
+use Rattle.image.specs.Positions.{from, upTo, positionOf, judged}
 
 -- One reading after another: in pieces, and with what is done next put otherwise.
 pub in-pieces : {A B C : Type 0} (r : Read A) (f : A → Reader B) (g : B → Reader C) → continued (continued r f) g ≡ continued r (λ a b. continued (f a b) g)

@@ -1,19 +1,12 @@
 -- The rule book's readings, followed by a cursor through the image.
 use Prim.Native.Nat.{ℕ}
 use mathlib.Core.Bool.{Bool, cond}
-use lib.ListN.{length, drop}
-use lib.Dec.{ltb}
-use Rattle.octets.specs.Octets.{Bytes, byteAt}
+use lib.ListN.{drop}
+use Rattle.octets.specs.Octets.{Bytes}
 use Rattle.rules.specs.declared.Fault.{Fault}
 use Rattle.rules.specs.Image.{Read, fault, Reader, pure}
-use Rattle.image.specs.declared.NextByte.{NextByte}
-use Rattle.image.specs.declared.NextByte.the-variants.{Byte, End}
 use Rattle.image.specs.declared.Cursor.{Cursor}
 use Rattle.image.specs.declared.Cursor.the-variants.{At, Stopped}
-
--- What stands at a position.
-unfoldable pub nextAt : Bytes → ℕ → NextByte
-nextAt image at = cond (ltb at (length image)) (Byte (byteAt image at)) End
 
 -- What a reader gives from the cursor on: the first fault stays.
 unfoldable pub from : {A : Type 0} → Bytes → Cursor → Reader A → Read A

@@ -1,4 +1,5 @@
 // The call load: a card image is read byte by byte, each byte judged as it is read. The first fault in reading order stops it.
+use image_reader::NextByte;
 use rules::Card;
 use rules::Chain;
 use rules::Code;
@@ -17,14 +18,8 @@ ghost use lib.Dec.{leb};
 ghost use lib.ListN.{take, drop, replicate};
 ghost use Rattle.rules.specs.Codes.{zeroCode};
 ghost use Rattle.rules.specs.Image.{byteIf, anyByte, bytesIf, anyBytes, count, readCode, readPersonal, readRecords, end, zeroRecord, zeroCard, load};
-ghost use Rattle.image.specs.Positions.{nextAt, from, upTo, positionOf, judged};
+ghost use Rattle.image.specs.Positions.{from, upTo, positionOf, judged};
 ghost use Rattle.image.specs.Sections.{codeSection, keyAfter, withMark, markedKeys, keySection, referenceSection, personalSection, cardOf};
-
-// What stands at a position of the image.
-pub enum NextByte {
-    Byte(u8),
-    End,
-}
 
 // How far reading has come: to a position, or to the first fault, after which nothing more is read.
 pub enum Cursor {
@@ -73,15 +68,6 @@ pub struct ReadRecords {
     pub cursor: Cursor,
 }
 
-fn next_byte(image: &[u8], at: usize) -> NextByte
-    ensures { λ r. ⌜ r ≡ nextAt (now (image .entry)) at ⌝ }
-{
-    if at < image.len() {
-        return NextByte::Byte(image[at]);
-    }
-    NextByte::End
-}
-
 // The position of a cursor; 0 where reading has stopped.
 fn position(cursor: Cursor) -> usize
     ensures { λ r. ⌜ r ≡ positionOf cursor ⌝ }
@@ -101,7 +87,7 @@ fn any_byte(image: &[u8], cursor: Cursor) -> ReadByte
             byte: 0,
             cursor: Cursor::Stopped(fault),
         },
-        Cursor::At(at) => match next_byte(image, at) {
+        Cursor::At(at) => match image_reader::read_at(image, at) {
             NextByte::Byte(byte) => ReadByte {
                 byte: byte,
                 cursor: Cursor::At(at + 1),
@@ -181,7 +167,7 @@ fn end(image: &[u8], cursor: Cursor) -> Cursor
 {
     match cursor {
         Cursor::Stopped(first) => Cursor::Stopped(first),
-        Cursor::At(at) => match next_byte(image, at) {
+        Cursor::At(at) => match image_reader::read_at(image, at) {
             NextByte::Byte(_) => Cursor::Stopped(Fault::LeftOver),
             NextByte::End => Cursor::At(at),
         },

@@ -15,8 +15,8 @@ enum-known-cursor c = search needs
 enum-known-cursor-2 : tie.Need-enum-known-cursor-2
 enum-known-cursor-2 c = search needs
 
-next-byte-requires : tie.Need-next-byte-requires
-next-byte-requires c κs = search needs
+read-at-requires : tie.Need-read-at-requires
+read-at-requires c κs = search needs
 
 enum-known-byte : tie.Need-enum-known-byte
 enum-known-byte c = search needs
@@ -24,7 +24,7 @@ enum-known-byte c = search needs
 add-t10 : tie.Need-add-t10
 add-t10 c =
     let image : Bytes = now (c .before .before .before .before .before .before .before .before .args .image) in
-    let there : c .before .before .before .before .before .cursor2 .given .0 .0 < length image = byte-there image _ (sym (c .before .before .before .next-byte .ensures) ∙ c .before .byte .given .1) in
+    let there : c .before .before .before .before .before .cursor2 .given .0 .0 < length image = byte-there image _ (sym (c .before .before .before .read-at .ensures) ∙ c .before .byte .given .1) in
     omega (arith, there)
 
 enum-told : tie.Need-enum-told
@@ -34,10 +34,10 @@ returns : tie.Need-returns
 returns c = stopped-there (now (c .before .before .before .before .args .image)) _ _ (c .before .cursor .given .1) _ _
 
 returns-2 : tie.Need-returns-2
-returns-2 c = byte-read (now (c .before .before .before .before .before .before .before .before .args .image)) _ (sym (c .before .before .before .next-byte .ensures) ∙ c .before .byte .given .1) _ (c .before .before .before .before .before .cursor2 .given .1)
+returns-2 c = byte-read (now (c .before .before .before .before .before .before .before .before .args .image)) _ (sym (c .before .before .before .read-at .ensures) ∙ c .before .byte .given .1) _ (c .before .before .before .before .before .cursor2 .given .1)
 
 returns-3 : tie.Need-returns-3
-returns-3 c = byte-missing (now (c .before .before .before .before .before .before .before .args .image)) _ (sym (c .before .before .next-byte .ensures) ∙ c .enum-told .given .1) _ (c .before .before .before .before .cursor2 .given .1)
+returns-3 c = byte-missing (now (c .before .before .before .before .before .before .before .args .image)) _ (sym (c .before .before .read-at .ensures) ∙ c .enum-told .given .1) _ (c .before .before .before .before .cursor2 .given .1)
 
 pub any-byte-spec : {M : Type 1} → statement M
 any-byte-spec =
@@ -45,7 +45,7 @@ any-byte-spec =
     (tie.spec
     enum-known-cursor
     enum-known-cursor-2
-    next-byte-requires
+    read-at-requires
     enum-known-byte
     add-t10
     enum-told

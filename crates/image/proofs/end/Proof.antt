@@ -11,8 +11,8 @@ enum-known-cursor c = search needs
 enum-known-cursor-2 : tie.Need-enum-known-cursor-2
 enum-known-cursor-2 c = search needs
 
-next-byte-requires : tie.Need-next-byte-requires
-next-byte-requires c κs = search needs
+read-at-requires : tie.Need-read-at-requires
+read-at-requires c κs = search needs
 
 enum-told : tie.Need-enum-told
 enum-told c = search needs
@@ -24,10 +24,10 @@ returns : tie.Need-returns
 returns c = stopped-there (now (c .before .before .before .before .args .image)) _ _ (c .before .cursor .given .1) _ _
 
 returns-2 : tie.Need-returns-2
-returns-2 c = left-over (now (c .before .before .before .before .before .before .before .args .image)) _ (sym (c .before .before .next-byte .ensures) ∙ c .enum-told .given .1) _ (c .before .before .before .before .cursor2 .given .1)
+returns-2 c = left-over (now (c .before .before .before .before .before .before .before .args .image)) _ (sym (c .before .before .read-at .ensures) ∙ c .enum-told .given .1) _ (c .before .before .before .before .cursor2 .given .1)
 
 returns-3 : tie.Need-returns-3
-returns-3 c = at-end (now (c .before .before .before .before .before .before .before .args .image)) _ (sym (c .before .before .next-byte .ensures) ∙ c .enum-told2 .given .1) _ (c .before .before .before .before .cursor2 .given .1)
+returns-3 c = at-end (now (c .before .before .before .before .before .before .before .args .image)) _ (sym (c .before .before .read-at .ensures) ∙ c .enum-told2 .given .1) _ (c .before .before .before .before .cursor2 .given .1)
 
 pub end-spec : {M : Type 1} → statement M
 end-spec =
@@ -35,7 +35,7 @@ end-spec =
     (tie.spec
     enum-known-cursor
     enum-known-cursor-2
-    next-byte-requires
+    read-at-requires
     enum-told
     enum-told-2
     returns
