@@ -14,7 +14,8 @@ use Rattle.hex.specs.Hex.{isHex, bytesOf}
 use Rattle.hex.proofs.Laws.{length-bytesOf, length-bytesOf-div}
 use Rattle.rules.specs.declared.Card.{Card}
 use Rattle.rules.specs.Edge.{delivery, powerReset}
-use Rattle.lines.specs.Lines.{Said, command-of, lineFeed, said, answerTo, callOf, callAnswer, requestOf, answerLine}
+use Rattle.lines.specs.Lines.{Said, command-of, lineFeed, said, answerTo, callOf, requestOf, answerLine}
+use Rattle.lines.specs.Held.{callAnswer}
 
 -- The bytes that a line's hex says, read from the room that they were written to.
 pub call-read : (rest : Bytes) → isHex rest ≡ true → length rest ≤ 1024 → {room call : Bytes} → room ≡ filled 512 (bytesOf (take 1024 rest)) → call ≡ take (length rest / 2) room

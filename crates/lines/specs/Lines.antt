@@ -6,14 +6,12 @@ use lib.ListN.{length, take, drop}
 use lib.Dec.{eqb, ltb}
 use Rattle.octets.specs.Octets.{Bytes, byteAt, same, blank}
 use Rattle.hex.specs.Hex.{isHex, bytesOf, hexOf}
-use Rattle.text.specs.Text.{textOf}
 use Rattle.rules.specs.declared.Card.{Card}
 use Rattle.rules.specs.declared.Outcome.{Outcome}
 use Rattle.rules.specs.declared.Reply.{Reply}
 use Rattle.rules.specs.declared.Reply.the-variants.{Refused, Response, HandedOut, WasReset}
 use Rattle.rules.specs.Keys.{kindNumber}
 use Rattle.rules.specs.Edge.{refusalNumber, command, delivery, powerReset}
-use Rattle.lines.specs.declared.Answered.{Answered}
 
 -- Lines end in a line feed.
 abbrev pub lineFeed : ℕ
@@ -26,6 +24,7 @@ pub data Request : Type 0 where
   delivery-of : Bytes → Request
   other : Request
 
+-- C is a command, D a delivery.
 unfoldable pub callOf : ℕ → Bytes → Request
 callOf letter bytes = cond (eqb letter 0x43) (command-of bytes) (cond (eqb letter 0x44) (delivery-of bytes) other)
 
@@ -64,12 +63,5 @@ answerTo c authentication signature (command-of apdu) =
 answerTo c authentication signature (delivery-of result) = said (delivery c result (blank 258) .0) (delivery c result (blank 258) .1)
 answerTo c authentication signature other = record { card = c; text = 0x3F ∷ lineFeed ∷ [] }
 
-abbrev pub callAnswer : Card → Bytes → Bytes → Bytes → Said
-callAnswer c authentication signature line = answerTo c authentication signature (callOf (byteAt line 0) (bytesOf (drop 1 line)))
-
 abbrev pub answerLine : Card → Bytes → Bytes → Bytes → Said
 answerLine c authentication signature line = answerTo c authentication signature (requestOf line)
-
--- What the code holds, read as the definitions above have it.
-abbrev pub saidOf : Answered → Said
-saidOf a = record { card = a .card; text = textOf (a .text) }

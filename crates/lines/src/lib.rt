@@ -16,7 +16,8 @@ ghost use Rattle.text.specs.Text.{textOf};
 ghost use Rattle.rules.specs.Keys.{kindNumber};
 ghost use Rattle.rules.specs.Edge.{refusalNumber, delivery};
 ghost use Rattle.rules.specs.declared.Reply.the-variants.{Refused, Response, HandedOut};
-ghost use Rattle.lines.specs.Lines.{command-of, lineFeed, numeral, replyText, said, answerTo, callAnswer, answerLine, saidOf};
+ghost use Rattle.lines.specs.Lines.{command-of, lineFeed, numeral, replyText, said, answerTo, answerLine};
+ghost use Rattle.lines.specs.Held.{callAnswer, saidOf};
 
 // The next card and an output line.
 pub struct Answered {

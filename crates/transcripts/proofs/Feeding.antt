@@ -6,7 +6,8 @@ use lib.ListN.{length, take, drop, length-append}
 use lib.Seq.{take-all, take-add}
 use Rattle.octets.specs.Octets.{Bytes, pasted}
 use Rattle.octets.proofs.Pasting.{pasted-nothing, pasted-behind}
-use Rattle.transcripts.specs.Transcript.{Program, Run, writtenBefore, run, fed}
+use Rattle.transcripts.specs.Transcript.{Program, Run, writtenBefore, run}
+use Rattle.transcripts.specs.Held.{fed}
 use Rattle.transcripts.proofs.Runs.{run-append, at-end}
 
 module _ (authentication signature : Bytes) (p : Program) (input room : Bytes) where

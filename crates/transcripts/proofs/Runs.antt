@@ -15,7 +15,8 @@ use Rattle.octets.proofs.Cutting.{cut-front}
 use Rattle.octets.specs.Octets.{Bytes, byteAt}
 use Rattle.octets.proofs.Tests.{by-test}
 use Rattle.lines.specs.Lines.{Said, lineFeed}
-use Rattle.transcripts.specs.Transcript.{Program, Run, longer, writtenBefore, atLineEnd, runWith, run, lastLine, lineLength}
+use Rattle.transcripts.specs.Transcript.{Program, Run, longer, writtenBefore, atLineEnd, runWith, run, lastLine}
+use Rattle.transcripts.specs.Held.{lineLength}
 
 -- The characters before the first line feed: none is left, the one at the index is a line feed, or it is another.
 module _ (s : Bytes) (i : ℕ) where

@@ -1,18 +1,14 @@
 -- Document 01, "Cases": the transcript program. It uses the sample card and two certificates, reads lines and writes one line each.
-use Prim.Native.Nat.{ℕ, suc, _*_, _≤_, min}
+use Prim.Native.Nat.{_*_, _≤_}
 use mathlib.Core.Path.{_≡_}
 use mathlib.Core.Bool.{true, cond}
 use mathlib.Core.List.{[], _∷_, _++_}
 use lib.ListN.{length, take}
 use lib.Dec.{eqb}
-use Rattle.octets.specs.Octets.{Bytes, allBytes, pasted}
-use Rattle.text.specs.Text.{textOf}
+use Rattle.octets.specs.Octets.{Bytes, allBytes}
 use Rattle.rules.specs.declared.Card.{Card}
 use Rattle.rules.specs.Sample.{sampleCard}
 use Rattle.lines.specs.Lines.{Said, lineFeed, answerLine}
-use Rattle.transcripts.specs.declared.Talk.{Talk}
-use Rattle.transcripts.specs.declared.FirstLine.{FirstLine}
-use Rattle.transcripts.specs.declared.Fed.{Fed}
 
 -- The program between two characters: the card, and the line as far as it has come.
 pub record Program : Type 0 where
@@ -72,31 +68,3 @@ abbrev pub ShortOutput : Type 0
 ShortOutput =
     (authentication signature : Bytes) → allBytes authentication ≡ true → allBytes signature ≡ true
     → (p : Program) (input : Bytes) → length (run authentication signature p input .text) ≤ 518 * length input
-
--- How many characters stand before the first line feed.
-abbrev pub lineLength : Bytes → ℕ
-lineLength [] = 0
-lineLength (x ∷ b) = cond (eqb x lineFeed) 0 (suc (lineLength b))
-
--- The first line with its line feed, or all of an input without one.
-abbrev pub lineTaken : Bytes → ℕ
-lineTaken b = min (length b) (suc (lineLength b))
-
--- The program after some input, and how much of the output stands in a buffer.
-pub record FedBytes : Type 0 where
-  pub program : Program
-  pub written : ℕ
-
--- The output at the front of a buffer, as much of it as fits.
-abbrev pub fed : Bytes → Run → FedBytes × Bytes
-fed buffer r = (record { program = r .program; written = min (length (r .text)) (length buffer) }, pasted buffer 0 (r .text))
-
--- What the code holds, read as the definitions above have it.
-abbrev pub programOf : Talk → Program
-programOf t = record { card = t .card; line = textOf (t .line) }
-
-abbrev pub runOf : FirstLine → Run
-runOf f = record { program = programOf (f .talk); text = textOf (f .text) }
-
-abbrev pub fedOf : Fed → FedBytes
-fedOf f = record { program = programOf (f .talk); written = f .written }

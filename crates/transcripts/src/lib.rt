@@ -5,7 +5,8 @@ ghost use mathlib.Core.Path.{_≡_};
 ghost use Prim.Native.Nat.{_≤_};
 ghost use lib.ListN.{length, take};
 ghost use Rattle.text.specs.Text.{textOf};
-ghost use Rattle.transcripts.specs.Transcript.{run, lastLine, lineLength, lineTaken, fed, start, programOf, runOf, fedOf};
+ghost use Rattle.transcripts.specs.Transcript.{run, lastLine, start};
+ghost use Rattle.transcripts.specs.Held.{lineLength, lineTaken, fed, programOf, runOf, fedOf};
 
 // The card between two characters of input, and the line as far as it has come.
 pub struct Talk {

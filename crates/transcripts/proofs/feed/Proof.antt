@@ -6,7 +6,8 @@ use lib.ListN.{length, take, drop, length-drop}
 use denote.Ref.{now}
 use Rattle.octets.specs.Octets.{Bytes, pasted}
 use Rattle.octets.proofs.Strings.{take-rest}
-use Rattle.transcripts.specs.Transcript.{run, programOf, runOf}
+use Rattle.transcripts.specs.Transcript.{run}
+use Rattle.transcripts.specs.Held.{programOf, runOf}
 use Rattle.transcripts.proofs.Feeding.{Reached, reached-start, reached-more, reached-end}
 use Rattle.transcripts.proofs.feed.Statement.{statement}
 use Rattle.transcripts.proofs.feed.Tie as tie

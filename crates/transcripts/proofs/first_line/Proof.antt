@@ -6,7 +6,8 @@ use denote.Ref.{now}
 use Rattle.octets.specs.Octets.{Bytes}
 use Rattle.text.specs.Text.{textOf}
 use Rattle.lines.specs.Lines.{Said, answerLine}
-use Rattle.transcripts.specs.Transcript.{Program, longer, lineLength, programOf}
+use Rattle.transcripts.specs.Transcript.{Program, longer}
+use Rattle.transcripts.specs.Held.{lineLength, programOf}
 use Rattle.transcripts.proofs.Runs.{run-plain, run-line}
 use borrow.Author.Needs.{needs}
 use Rattle.transcripts.proofs.first_line.Statement.{statement}

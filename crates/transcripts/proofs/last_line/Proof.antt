@@ -1,7 +1,7 @@
 use mathlib.Core.Path.{ap, _∙_}
 use denote.Ref.{now}
 use Rattle.lines.specs.Lines.{Said, answerLine}
-use Rattle.transcripts.specs.Transcript.{programOf}
+use Rattle.transcripts.specs.Held.{programOf}
 use Rattle.transcripts.proofs.Runs.{no-last-line, last-line-answered}
 use borrow.Author.Needs.{needs}
 use Rattle.transcripts.proofs.last_line.Statement.{statement}
