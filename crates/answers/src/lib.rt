@@ -137,8 +137,8 @@ pub fn write(card: Card, output: Output, buffer: &mut [u8]) -> Outcome
             reply: Reply::HandedOut(kind_of(kind), output.key),
         };
     }
-    buffer[at] = octets::high(output.sw);
-    buffer[at + 1] = octets::low(output.sw);
+    buffer[at] = numbers::high(output.sw);
+    buffer[at + 1] = numbers::low(output.sw);
     Outcome {
         card: card,
         reply: Reply::Response(at + 2),

@@ -11,7 +11,7 @@ fn le_of(x: u8) -> usize
     if x == 0 {
         return 256;
     }
-    octets::wide(x)
+    numbers::wide(x)
 }
 
 // The length form of a command's bytes: its header with Lc and Le, or malformed.
@@ -37,7 +37,7 @@ pub fn parse(apdu: &[u8]) -> Parsed
         h.le = le_of(apdu[4]);
         return Parsed::Form(h);
     }
-    let lc = octets::wide(apdu[4]);
+    let lc = numbers::wide(apdu[4]);
     if lc == 0 {
         return Parsed::Malformed;
     }

@@ -99,8 +99,8 @@ pub fn power_reset(card: Card) -> Outcome
     if !good_state::good(card) {
         return refused(card, Refusal::BadState);
     }
-    let closed = state::closed(
-        state::closed(state::closed(card, Code::PUK), Code::PIN1),
+    let closed = card_codes::closed(
+        card_codes::closed(card_codes::closed(card, Code::PUK), Code::PIN1),
         Code::PIN2,
     );
     let session = state::new_session();

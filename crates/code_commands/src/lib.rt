@@ -36,7 +36,7 @@ fn wrong_status(left: u8) -> u16
 fn judge(card: Card, number: usize, presented: &[u8]) -> Judgement
     ensures { λ r. ⌜ r ≡ judgementOf card number (now (presented .entry)) ⌝ }
 {
-    let judged = codes::present(state::code_of(card, number), presented);
+    let judged = codes::present(card_codes::code_of(card, number), presented);
     let code = judged.code;
     let verdict = judged.verdict;
     match verdict {
@@ -46,12 +46,12 @@ fn judge(card: Card, number: usize, presented: &[u8]) -> Judgement
             right: false,
         },
         Verdict::Right => Judgement {
-            card: state::with_code(card, number, code),
+            card: card_codes::with_code(card, number, code),
             sw: 0x9000,
             right: true,
         },
         Verdict::Wrong(left) => Judgement {
-            card: state::with_code(card, number, code),
+            card: card_codes::with_code(card, number, code),
             sw: wrong_status(left),
             right: false,
         },
@@ -73,7 +73,7 @@ fn follow(judged: Judgement) -> Stepped
 pub fn verify(card: Card, h: Header, presented: &[u8]) -> Stepped
     ensures { λ r. ⌜ stepOf r ≡ verify card h (now (presented .entry)) ⌝ }
 {
-    let number = octets::wide(h.p2);
+    let number = numbers::wide(h.p2);
     follow(judge(card, number, presented))
 }
 
@@ -106,8 +106,8 @@ fn new_value(code: Code, values: &[u8]) -> &[u8]
 pub fn change(card: Card, h: Header, values: &[u8]) -> Stepped
     ensures { λ r. ⌜ stepOf r ≡ change card h (now (values .entry)) ⌝ }
 {
-    let number = octets::wide(h.p2);
-    let code = state::code_of(card, number);
+    let number = numbers::wide(h.p2);
+    let code = card_codes::code_of(card, number);
     let judged = judge(card, number, old_value(code, values));
     let after = judged.card;
     if !judged.right {
@@ -121,7 +121,7 @@ pub fn change(card: Card, h: Header, values: &[u8]) -> Stepped
         return disallowed(card);
     }
     Stepped {
-        card: state::with_code(card, number, codes::storing(new, Code::TRIES, false)),
+        card: card_codes::with_code(card, number, codes::storing(new, Code::TRIES, false)),
         sw: 0x9000,
     }
 }
@@ -140,16 +140,16 @@ fn renewed(code: Code) -> Code
 fn unblock_by_verified_puk(card: Card, pin: usize) -> Stepped
     ensures { λ r. ⌜ stepOf r ≡ unblockByVerifiedPuk card pin ⌝ }
 {
-    let puk = state::code_of(card, Code::PUK);
+    let puk = card_codes::code_of(card, Code::PUK);
     if !puk.verified {
         return Stepped {
             card: card,
             sw: 0x6982,
         };
     }
-    let code = renewed(state::code_of(card, pin));
+    let code = renewed(card_codes::code_of(card, pin));
     Stepped {
-        card: state::closed(state::with_code(card, pin, code), Code::PUK),
+        card: card_codes::closed(card_codes::with_code(card, pin, code), Code::PUK),
         sw: 0x9000,
     }
 }
@@ -158,7 +158,7 @@ fn unblock_by_verified_puk(card: Card, pin: usize) -> Stepped
 fn unblock_by_presented_puk(card: Card, pin: usize, values: &[u8]) -> Stepped
     ensures { λ r. ⌜ stepOf r ≡ unblockByPresentedPuk card pin (now (values .entry)) ⌝ }
 {
-    let puk = state::code_of(card, Code::PUK);
+    let puk = card_codes::code_of(card, Code::PUK);
     let judged = judge(card, Code::PUK, old_value(puk, values));
     if !judged.right {
         return follow(judged);
@@ -168,9 +168,9 @@ fn unblock_by_presented_puk(card: Card, pin: usize, values: &[u8]) -> Stepped
     if !codes::allowed(pin, new) {
         return disallowed(unchanged);
     }
-    let stored = state::with_code(card, pin, codes::storing(new, Code::TRIES, false));
+    let stored = card_codes::with_code(card, pin, codes::storing(new, Code::TRIES, false));
     Stepped {
-        card: state::with_code(stored, Code::PUK, renewed(puk)),
+        card: card_codes::with_code(stored, Code::PUK, renewed(puk)),
         sw: 0x9000,
     }
 }
@@ -179,8 +179,8 @@ fn unblock_by_presented_puk(card: Card, pin: usize, values: &[u8]) -> Stepped
 pub fn reset_retry(card: Card, h: Header, values: &[u8]) -> Stepped
     ensures { λ r. ⌜ stepOf r ≡ resetRetry card h (now (values .entry)) ⌝ }
 {
-    let pin = octets::wide(h.p2);
-    let code = state::code_of(card, pin);
+    let pin = numbers::wide(h.p2);
+    let code = card_codes::code_of(card, pin);
     if code.tries != 0 {
         return Stepped {
             card: card,

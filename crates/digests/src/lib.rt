@@ -41,7 +41,7 @@ fn sha2(l: u8, a: u8, h: u8, d: &[u8]) -> bool
         0x04,
         h,
     ];
-    prefixed(&prefix, octets::wide(h), d)
+    prefixed(&prefix, numbers::wide(h), d)
 }
 
 // Whether d is a digest that SIGN accepts: SHA-1, SHA-224, SHA-256, SHA-384 or SHA-512.

@@ -36,7 +36,7 @@ fn choosing(s: Session, p2: u8, key: u16) -> Session
 {
     let environment = s.environment;
     let mut choices = environment.choices;
-    let place = octets::wide(kind_chosen(p2)) - 1;
+    let place = numbers::wide(kind_chosen(p2)) - 1;
     choices[place] = key;
     state::with_environment(s, environment.number, choices)
 }
@@ -59,7 +59,7 @@ pub fn choose_key(card: Card, s: Session, h: Header, d: &[u8]) -> SessionOutput
     if !names_key(d) {
         return session_steps::session_status(s, 0x6A80);
     }
-    let key = octets::word(octets::byte_at(d, 3), octets::byte_at(d, 4));
+    let key = numbers::word(octets::byte_at(d, 3), octets::byte_at(d, 4));
     if !keys::of_class(kind_chosen(h.p2), key) {
         return session_steps::session_status(s, 0x6A80);
     }

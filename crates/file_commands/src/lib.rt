@@ -26,7 +26,7 @@ const NO_FILE: u16 = 0;
 fn named_file(name: &[u8]) -> u16
     ensures { λ r. ⌜ r ≡ word (byteAt (now (name .entry)) 0) (byteAt (now (name .entry)) 1) ⌝ }
 {
-    octets::word(octets::byte_at(name, 0), octets::byte_at(name, 1))
+    numbers::word(octets::byte_at(name, 0), octets::byte_at(name, 1))
 }
 
 // A4 SELECT.
@@ -90,11 +90,11 @@ fn give_counter(card: Card, s: Session, le: usize, n: u8) -> SessionOutput
     ensures { λ r. ⌜ sessionStepOf r ≡ give s le (counterRecord card n) ⌝ }
 {
     if n == 3 {
-        let puk = state::code_of(card, Code::PUK);
+        let puk = card_codes::code_of(card, Code::PUK);
         let record = puk_record(puk.tries);
         return session_steps::give(s, le, &record);
     }
-    let pin = state::code_of(card, octets::wide(n));
+    let pin = card_codes::code_of(card, numbers::wide(n));
     let record = pin_record(pin.tries);
     session_steps::give(s, le, &record)
 }
@@ -115,7 +115,7 @@ fn place(n: u8) -> usize
     if n == 0 {
         return 0;
     }
-    octets::wide(n) - 1
+    numbers::wide(n) - 1
 }
 
 // Record n of 5044h.
@@ -182,7 +182,7 @@ pub fn read_binary<'a>(
 {
     let selection = s.selection;
     let file = selection.file;
-    let offset = octets::word(h.p1, h.p2) as usize;
+    let offset = numbers::word(h.p1, h.p2) as usize;
     if file == NO_FILE {
         return session_steps::session_status(s, 0x6986);
     }

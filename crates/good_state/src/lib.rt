@@ -133,9 +133,9 @@ fn good_session(keys: [bool; 4], s: Session) -> bool
 pub fn good(card: Card) -> bool
     ensures { λ r. ⌜ r ≡ good card ⌝ }
 {
-    let puk = codes::good_code(Code::PUK, state::code_of(card, Code::PUK));
-    let pin1 = codes::good_code(Code::PIN1, state::code_of(card, Code::PIN1));
-    let pin2 = codes::good_code(Code::PIN2, state::code_of(card, Code::PIN2));
+    let puk = codes::good_code(Code::PUK, card_codes::code_of(card, Code::PUK));
+    let pin1 = codes::good_code(Code::PIN1, card_codes::code_of(card, Code::PIN1));
+    let pin2 = codes::good_code(Code::PIN2, card_codes::code_of(card, Code::PIN2));
     let keys = card.keys;
     let reference_record = card.references;
     let references = good_references(keys, reference_record);

@@ -123,7 +123,7 @@ fn byte_within(image: &[u8], cursor: Cursor, low: usize, high: usize, fault: Fau
     let read = any_byte(image, cursor);
     let byte = read.byte;
     let there = read.cursor;
-    let n = octets::wide(byte);
+    let n = numbers::wide(byte);
     let after = judged(there, (low <= n) & (n <= high), fault);
     ReadByte {
         byte: byte,
@@ -185,11 +185,11 @@ fn read_code(image: &[u8], cursor: Cursor, number: usize) -> ReadCode
         Code::MOST,
         Fault::BadCode,
     );
-    let n = octets::wide(len.byte);
+    let n = numbers::wide(len.byte);
     let first = len.cursor;
     let last = run(image, first, n, 0x30, 0x39, Fault::BadCode);
     let digits = octets::part(image, position(first), n);
-    let tries = byte_within(image, last, 0, octets::wide(Code::TRIES), Fault::BadCode);
+    let tries = byte_within(image, last, 0, numbers::wide(Code::TRIES), Fault::BadCode);
     let code = codes::storing(digits, tries.byte, false);
     let after = tries.cursor;
     ReadCode {
@@ -226,7 +226,7 @@ fn read_key(image: &[u8], cursor: Cursor, last: u16) -> ReadKey
     let second = high.cursor;
     let low = any_byte(image, second);
     let there = low.cursor;
-    let key = octets::word(high.byte, low.byte);
+    let key = numbers::word(high.byte, low.byte);
     let signature = keys::is_signature_key(key);
     let authentication = keys::is_authentication_key(key);
     let after = judged(
@@ -280,7 +280,7 @@ fn key_section(image: &[u8], cursor: Cursor) -> ReadKeys
 {
     let number = byte_within(image, cursor, 2, 4, Fault::WrongCount);
     let first = number.cursor;
-    let read = read_keys(image, first, octets::wide(number.byte));
+    let read = read_keys(image, first, numbers::wide(number.byte));
     let last = read.cursor;
     let keys = read.keys;
     let after = judged(
@@ -315,7 +315,7 @@ fn read_record(image: &[u8], cursor: Cursor) -> ReadRecord
     ensures { λ r. ⌜ upTo (now (image .entry)) (r .cursor) (r .personal) ≡ from (now (image .entry)) cursor readPersonal ⌝ }
 {
     let len = byte_within(image, cursor, 1, 64, Fault::RecordLength);
-    let n = octets::wide(len.byte);
+    let n = numbers::wide(len.byte);
     let first = len.cursor;
     let after = any_bytes(image, first, n);
     let bytes = octets::part(image, position(first), n);
@@ -372,7 +372,7 @@ fn personal_section(image: &[u8], cursor: Cursor) -> ReadRecords
 fn zero_codes() -> [Code; 3]
     ensures { λ r. ⌜ r ≡ replicate 3 zeroCode ⌝ }
 {
-    let code = state::zero_code();
+    let code = card_codes::zero_code();
     [code; 3]
 }
 

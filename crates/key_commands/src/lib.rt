@@ -28,7 +28,7 @@ fn key_for(card: Card, s: Session, kind: u8) -> u16
 {
     let environment = s.environment;
     let choices = environment.choices;
-    let place = octets::wide(kind) - 1;
+    let place = numbers::wide(kind) - 1;
     let choice = choices[place];
     if choice != 0 {
         return choice;
@@ -54,7 +54,7 @@ pub fn internal_authenticate(card: Card, s: Session, h: Header, d: &[u8]) -> Ses
     if s.environment.number != 1 {
         return session_steps::session_status(s, 0x6985);
     }
-    let pin1 = state::code_of(card, Code::PIN1);
+    let pin1 = card_codes::code_of(card, Code::PIN1);
     if !pin1.verified {
         return session_steps::session_status(s, 0x6982);
     }
@@ -91,7 +91,7 @@ pub fn sign(card: Card, s: Session, h: Header, d: &[u8]) -> CardOutput
     if s.environment.number != 1 {
         return turned_down(card, s, 0x6985);
     }
-    let pin2 = state::code_of(card, Code::PIN2);
+    let pin2 = card_codes::code_of(card, Code::PIN2);
     if !pin2.verified {
         return turned_down(card, s, 0x6982);
     }
@@ -100,7 +100,7 @@ pub fn sign(card: Card, s: Session, h: Header, d: &[u8]) -> CardOutput
     let handed = session_steps::hand_out(s, JobKind::Sign, key, h.le, block);
     let session = handed.session;
     let output = handed.output;
-    let next = state::with_session(state::closed(card, Code::PIN2), session);
+    let next = state::with_session(card_codes::closed(card, Code::PIN2), session);
     CardOutput {
         card: next,
         output: output,
@@ -148,7 +148,7 @@ fn decipher_whole(card: Card, s: Session, h: Header, cryptogram: [u8; 257]) -> S
     if s.environment.number != 6 {
         return session_steps::session_status(emptied, 0x6985);
     }
-    let pin1 = state::code_of(card, Code::PIN1);
+    let pin1 = card_codes::code_of(card, Code::PIN1);
     if !pin1.verified {
         return session_steps::session_status(emptied, 0x6982);
     }

@@ -47,7 +47,7 @@ pub fn active_key(references: [u8; 21], kind: u8) -> u16
     ensures { λ r. ⌜ r ≡ activeKey references kind ⌝ }
 {
     if kind == 2 {
-        return octets::word(references[19], references[20]);
+        return numbers::word(references[19], references[20]);
     }
-    octets::word(references[9], references[10])
+    numbers::word(references[9], references[10])
 }

@@ -73,7 +73,7 @@ fn job_line(kind: JobKind, key: u16) -> Text
 {
     let head = [b'J', kind_numeral(kind), b' '];
     let named = text::with(text::empty(), &head);
-    let bytes = [octets::high(key), octets::low(key)];
+    let bytes = [numbers::high(key), numbers::low(key)];
     let coded = with_hex(named, &bytes);
     text::with(coded, b"\n")
 }

@@ -26,7 +26,7 @@ fn print_code(name: &[u8], code: Code) {
     print(name);
     print(octets::part(&digits, 0, code.len));
     print(b" ");
-    io::print_decimal(STDOUT_FILENO, octets::wide(code.tries) as u64);
+    io::print_decimal(STDOUT_FILENO, numbers::wide(code.tries) as u64);
     print(b"\n");
 }
 
@@ -64,9 +64,9 @@ fn print_records(personal: [Record; 16]) {
 }
 
 fn print_card(card: Card) {
-    print_code(b"PUK ", state::code_of(card, Code::PUK));
-    print_code(b"PIN1 ", state::code_of(card, Code::PIN1));
-    print_code(b"PIN2 ", state::code_of(card, Code::PIN2));
+    print_code(b"PUK ", card_codes::code_of(card, Code::PUK));
+    print_code(b"PIN1 ", card_codes::code_of(card, Code::PIN1));
+    print_code(b"PIN2 ", card_codes::code_of(card, Code::PIN2));
     let keys = card.keys;
     print_keys(keys);
     let references = card.references;

@@ -1,9 +1,9 @@
 // Slices of bytes: what is asked of them, and what is written into them. Every function takes every input.
 // The definitions that the contracts cite stand in specs/, their laws in proofs/.
 ghost use mathlib.Core.Path.{_≡_};
-ghost use Prim.Native.Nat.{_+_, _-_, _/_, _%_, min};
+ghost use Prim.Native.Nat.{_-_, min};
 ghost use lib.ListN.{take, drop, replicate};
-ghost use Rattle.octets.specs.Octets.{byteAt, word, same, allDigits, allZero, pasted};
+ghost use Rattle.octets.specs.Octets.{byteAt, same, allDigits, allZero, pasted};
 
 // Whether a and b are the same string, in bytes and in length.
 pub fn equal(a: &[u8], b: &[u8]) -> bool
@@ -88,19 +88,6 @@ fn fitting(len: usize, at: usize, n: usize) -> usize
     n
 }
 
-// The sum of two numbers, and at most a third.
-pub fn sum_within(a: usize, b: usize, most: usize) -> usize
-    ensures { λ r. ⌜ r ≡ min (a + b) most ⌝ }
-{
-    if most <= a {
-        return most;
-    }
-    if most - a < b {
-        return most;
-    }
-    a + b
-}
-
 // Copies into dst, from index `at` on, as much of src as fits.
 pub fn copy_at(dst: &mut [u8], at: usize, src: &[u8])
     ensures { λ _. ⌜ now (dst .exit) ≡ pasted (now (dst .entry)) at (now (src .entry)) ⌝ }
@@ -123,31 +110,4 @@ pub fn fill(dst: &mut [u8], at: usize, n: usize, byte: u8)
         dst[at + j] = byte;
         j += 1;
     }
-}
-
-// A byte as a wider number.
-pub fn wide(b: u8) -> usize
-    ensures { λ r. ⌜ r ≡ b ⌝ }
-{
-    b as usize
-}
-
-// Two bytes as one number, high byte first.
-pub fn word(high: u8, low: u8) -> u16
-    ensures { λ r. ⌜ r ≡ word high low ⌝ }
-{
-    (high as u16) * 256 + (low as u16)
-}
-
-// The two bytes of a number, high and low.
-pub fn high(n: u16) -> u8
-    ensures { λ r. ⌜ r ≡ n / 256 ⌝ }
-{
-    (n / 256) as u8
-}
-
-pub fn low(n: u16) -> u8
-    ensures { λ r. ⌜ r ≡ n % 256 ⌝ }
-{
-    (n % 256) as u8
 }

@@ -1,7 +1,6 @@
-// Parts of the card state, read and replaced.
+// Parts of the session, replaced; and the card's session.
 use rules::Card;
 use rules::Chain;
-use rules::Code;
 use rules::Environment;
 use rules::Held;
 use rules::Job;
@@ -9,57 +8,11 @@ use rules::Selection;
 use rules::Session;
 ghost use mathlib.Core.Path.{_≡_};
 ghost use lib.ListN.{take};
-ghost use Rattle.rules.specs.Codes.{zeroCode, codeOf, withCode, closed};
 ghost use Rattle.rules.specs.Session.{holding, joining, withSelection, withEnvironment, withHeld, withChain, withJob, dropHeld, dropChain, newSession, withSession};
 ghost use Rattle.rules.specs.Judgement.{dropPending};
 
-// A code of all zeros.
-pub fn zero_code() -> Code
-    ensures { λ r. ⌜ r ≡ zeroCode ⌝ }
-{
-    Code {
-        digits: arrays::blank_12(),
-        len: 0,
-        tries: 0,
-        verified: false,
-    }
-}
-
-// The code of a number; all zeros where there is none.
-pub fn code_of(card: Card, number: usize) -> Code
-    ensures { λ r. ⌜ r ≡ codeOf card number ⌝ }
-{
-    if number < 3 {
-        return card.codes[number];
-    }
-    zero_code()
-}
-
-// The card with the code of a number replaced; the card itself where there is none.
-pub fn with_code(card: Card, number: usize, code: Code) -> Card
-    ensures { λ r. ⌜ r ≡ withCode card number code ⌝ }
-{
-    if 3 <= number {
-        return card;
-    }
-    let mut codes = card.codes;
-    codes[number] = code;
-    let mut next = card;
-    next.codes = codes;
-    next
-}
-
-// The card with the verified mark of a code off.
-pub fn closed(card: Card, number: usize) -> Card
-    ensures { λ r. ⌜ r ≡ closed card number ⌝ }
-{
-    let mut code = code_of(card, number);
-    code.verified = false;
-    with_code(card, number, code)
-}
-
 // A held answer, and a chain, of some bytes, or of as many as fit.
-pub fn holding(d: &[u8]) -> Held
+fn holding(d: &[u8]) -> Held
     ensures { λ r. ⌜ r ≡ holding (take 256 (now (d .entry))) ⌝ }
 {
     let kept = octets::part(d, 0, 256);
@@ -69,7 +22,7 @@ pub fn holding(d: &[u8]) -> Held
     }
 }
 
-pub fn joining(d: &[u8]) -> Chain
+fn joining(d: &[u8]) -> Chain
     ensures { λ r. ⌜ r ≡ joining (take 257 (now (d .entry))) ⌝ }
 {
     let kept = octets::part(d, 0, 257);

@@ -44,7 +44,7 @@ pub fn with(t: Text, d: &[u8]) -> Text
     let front = octets::part(&bytes, 0, len);
     let mut both = filled_1025(front);
     octets::copy_at(&mut both, front.len(), d);
-    let whole = octets::sum_within(front.len(), d.len(), 1025);
+    let whole = numbers::sum_within(front.len(), d.len(), 1025);
     Text {
         bytes: both,
         len: whole,

@@ -111,7 +111,7 @@ pub fn feed<'a>(
         let len = text.len;
         let shown = octets::part(&bytes, 0, len);
         octets::copy_at(buffer, written, shown);
-        written = octets::sum_within(written, shown.len(), buffer.len());
+        written = numbers::sum_within(written, shown.len(), buffer.len());
         next = first.talk;
         at += taken;
     }

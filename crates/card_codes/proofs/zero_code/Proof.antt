@@ -1,6 +1,6 @@
 use borrow.Author.Needs.{needs}
-use Rattle.state.proofs.zero_code.Statement.{statement}
-use Rattle.state.proofs.zero_code.Tie as tie
+use Rattle.card_codes.proofs.zero_code.Statement.{statement}
+use Rattle.card_codes.proofs.zero_code.Tie as tie
 
 blank-12-requires : tie.Need-blank-12-requires
 blank-12-requires c κs = search needs

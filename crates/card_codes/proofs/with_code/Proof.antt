@@ -3,8 +3,8 @@ use native.Mathlib.Omega.{arith}
 use lib.ListN.{length, length-map}
 use Rattle.octets.proofs.Buffers.{set-past}
 use borrow.Author.Needs.{needs}
-use Rattle.state.proofs.with_code.Statement.{statement}
-use Rattle.state.proofs.with_code.Tie as tie
+use Rattle.card_codes.proofs.with_code.Statement.{statement}
+use Rattle.card_codes.proofs.with_code.Tie as tie
 
 -- The card has three codes.
 three : (c : tie.Start) → length (c .args .card .codes) ≡ 3

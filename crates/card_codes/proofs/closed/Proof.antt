@@ -1,6 +1,6 @@
 use borrow.Author.Needs.{needs}
-use Rattle.state.proofs.closed.Statement.{statement}
-use Rattle.state.proofs.closed.Tie as tie
+use Rattle.card_codes.proofs.closed.Statement.{statement}
+use Rattle.card_codes.proofs.closed.Tie as tie
 
 code-of-requires : tie.Need-code-of-requires
 code-of-requires c κs = search needs

@@ -4,8 +4,8 @@ use lib.ListN.{length, length-map, List·getD-eq-default}
 use borrow.Author.Needs.{needs}
 use Rattle.rules.specs.Codes.{zeroCode}
 use Rattle.octets.proofs.Buffers.{place-inside}
-use Rattle.state.proofs.code_of.Statement.{statement}
-use Rattle.state.proofs.code_of.Tie as tie
+use Rattle.card_codes.proofs.code_of.Statement.{statement}
+use Rattle.card_codes.proofs.code_of.Tie as tie
 
 -- The card has three codes.
 three : (c : tie.Start) → length (c .args .t1 .codes) ≡ 3
