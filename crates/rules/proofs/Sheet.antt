@@ -348,6 +348,19 @@ module _ (k : ℕ) (h3 : k < 3) (c : Card) (g : good c ≡ true) (b auth sig w :
         signed = never refl;
       }
 
+  -- 9000, to a command that is about another code
+  untouched : (c′ : Card) → codeOf c′ k ≡ codeOf c k → verifies k h ≡ false → changes k h ≡ false → unblocks k h ≡ false → presents k h ≡ false
+      → (eqb k PUK && anyUnblocks h) ≡ false → (byVerifiedPuk h ≡ true → codeOf c PUK .verified ≡ true) → S (status c′ 0x9000)
+  untouched c′ now v ch u p a puk =
+      accepted c′
+      (ap (λ (v : Code). v .verified) now ∙ rw (v, ch, u, a))
+      (ap (λ (v : Code). v .tries) now ∙ rw (p, u))
+      (ap value now ∙ rw (ch, u))
+      (never p)
+      (never u)
+      (never p)
+      puk
+
   -- 63Cx
   mistaken : (c′ : Card) (t : ℕ) → t ≤ 15
       → codeOf c′ k .verified ≡ (not (presents k h) && codeOf c k .verified)
@@ -455,16 +468,9 @@ module _ (k : ℕ) (h3 : k < 3) (c : Card) (g : good c ≡ true) (b auth sig w :
         (λ _. rw e right)
         (never (rw i)))
         (λ n.
-        let now : codeOf c′ k ≡ codeOf c k = beside (dropPending c) j v (omega arith) refl n in
         let other : eqb j k ≡ false = ne-eqb j k (λ e. n (sym e)) in
-        accepted c′
-        (ap (λ (v : Code). v .verified) now ∙ rw (verify-tests k, other, changes-no k h (rw i), unblocks-no k h (rw i), i, and-false))
-        (ap (λ (v : Code). v .tries) now ∙ rw (verify-presents k, other, unblocks-no k h (rw i)))
-        (ap value now ∙ rw (changes-no k h (rw i), unblocks-no k h (rw i)))
-        (never (verify-presents k ∙ other))
-        (never (unblocks-no k h (rw i)))
-        (never (verify-presents k ∙ other))
-        (never (rw i))))
+        untouched c′ (beside (dropPending c) j v (omega arith) refl n)
+        (verify-tests k ∙ other) (changes-no k h (rw i)) (unblocks-no k h (rw i)) (verify-presents k ∙ other) (rw (i, and-false)) (never (rw i))))
 
   -- 24 CHANGE
   module _ (i : h .ins ≡ 0x24) (few : h .p2 ≤ 2) where
@@ -503,16 +509,9 @@ module _ (k : ℕ) (h3 : k < 3) (c : Card) (g : good c ≡ true) (b auth sig w :
         (λ _. rw e right)
         (never (rw i)))
         (λ n.
-        let now : codeOf c′ k ≡ codeOf c k = beside (dropPending c) j v (omega arith) refl n in
         let other : eqb j k ≡ false = ne-eqb j k (λ e. n (sym e)) in
-        accepted c′
-        (ap (λ (v : Code). v .verified) now ∙ rw (verifies-no k h (rw i), change-tests k, other, free-k, i, and-false))
-        (ap (λ (v : Code). v .tries) now ∙ rw (change-presents k, other, free-k))
-        (ap value now ∙ rw (change-tests k, other, free-k))
-        (never (change-presents k ∙ other))
-        (never free-k)
-        (never (change-presents k ∙ other))
-        (never (rw i)))))
+        untouched c′ (beside (dropPending c) j v (omega arith) refl n)
+        (verifies-no k h (rw i)) (change-tests k ∙ other) free-k (change-presents k ∙ other) (rw (i, and-false)) (never (rw i)))))
 
   -- 2C RESET RETRY
   module _ (i : h .ins ≡ 0x2C) (pin : 1 ≤ h .p2) (few : h .p2 ≤ 2) where
@@ -568,14 +567,7 @@ module _ (k : ℕ) (h3 : k < 3) (c : Card) (g : good c ≡ true) (b auth sig w :
       other-done n m now =
           let frees : unblocks k h ≡ false = pin-unblocks q k ∙ rw (ne-eqb j k (λ e. n (sym e))) in
           let not-puk : presents k h ≡ false = puk-presents k ∙ rw (ne-eqb k PUK m) in
-          accepted c′
-          (ap (λ (v : Code). v .verified) now ∙ rw (verifies-no k h (rw i), changes-no k h (rw i), frees, ne-eqb k PUK m))
-          (ap (λ (v : Code). v .tries) now ∙ rw (not-puk, frees))
-          (ap value now ∙ rw (changes-no k h (rw i), frees))
-          (never not-puk)
-          (never frees)
-          (never not-puk)
-          puk
+          untouched c′ now (verifies-no k h (rw i)) (changes-no k h (rw i)) frees not-puk (rw (ne-eqb k PUK m)) puk
 
       unblocked-done : (k ≡ j → S (status c′ 0x9000)) → (k ≡ PUK → S (status c′ 0x9000)) → (k ≢ j → k ≢ PUK → codeOf c′ k ≡ codeOf c k) → S (status c′ 0x9000)
       unblocked-done f u n = either _ k j f (λ a. either _ k PUK u (λ m. other-done a m (n a m)))
