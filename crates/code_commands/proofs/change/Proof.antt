@@ -10,7 +10,7 @@ use Rattle.rules.specs.declared.Card.{Card}
 use Rattle.octets.specs.Octets.{Bytes}
 use Prim.Native.Nat.{ℕ}
 use denote.Ref.{now}
-use mathlib.Core.Path.{_≡_, sym, ap, _∙_}
+use mathlib.Core.Path.{_≡_, sym, ap, ap₂, _∙_}
 use borrow.Author.Needs.{needs}
 use Rattle.code_commands.proofs.change.Statement.{statement}
 use Rattle.code_commands.proofs.change.Tie as tie
@@ -27,15 +27,27 @@ old-value-requires c κs = search needs
 judge-requires : tie.Need-judge-requires
 judge-requires c κs = search needs
 
+-- The code that P2 names, the judgement of the old value, and the new value with its test.
+code : (c : tie.After-code-of) → c .code-of .result ≡ codeOf (c .before .before .before .args .card) (c .before .before .before .args .h .p2)
+code c = c .code-of .ensures ∙ ap (codeOf (c .before .before .before .args .card)) (c .before .wide .ensures)
+
+judged : (c : tie.After-judge) → c .judge .result ≡ judgementOf (c .before .before .before .before .before .args .card) (c .before .before .before .before .before .args .h .p2) (oldValue (c .before .before .before .before .before .args .card) (c .before .before .before .before .before .args .h .p2) (now (c .before .before .before .before .before .args .values)))
+judged c =
+    let a = c .before .before .before .before .before .args in
+    c .judge .ensures
+    ∙ ap₂ (judgementOf (a .card)) (c .before .before .before .wide .ensures) (c .before .old-value .ensures ∙ ap (λ (v : Code). take (v .len) (now (a .values))) (code (c .before .before)))
+
+new : (c : tie.After-new-value) → now (c .new-value .result) ≡ newValue (c .before .before .before .before .before .before .before .before .before .args .card) (c .before .before .before .before .before .before .before .before .before .args .h .p2) (now (c .before .before .before .before .before .before .before .before .before .args .values))
+new c = c .new-value .ensures ∙ ap (λ (v : Code). drop (v .len) (now (c .before .before .before .before .before .before .before .before .before .args .values))) (code (c .before .before .before .before .before .before))
+
+test : (c : tie.After-allowed) → c .allowed .result ≡ allowed (c .before .before .before .before .before .before .before .before .before .before .args .h .p2) (newValue (c .before .before .before .before .before .before .before .before .before .before .args .card) (c .before .before .before .before .before .before .before .before .before .before .args .h .p2) (now (c .before .before .before .before .before .before .before .before .before .before .args .values)))
+test c = c .allowed .ensures ∙ ap₂ allowed (c .before .before .before .before .before .before .before .before .wide .ensures) (new (c .before))
+
 returns : tie.Need-returns
 unfolding change
 returns c =
-    let card : Card = c .before .before .before .before .before .before .before .before .args .card in
-    let d : Bytes = now (c .before .before .before .before .before .before .before .before .args .values) in
-    let number : c .before .before .before .before .before .before .wide .result ≡ c .before .before .before .before .before .before .before .before .args .h .p2 = c .before .before .before .before .before .before .wide .ensures in
-    let code : c .before .before .before .before .before .code-of .result ≡ codeOf card (c .before .before .before .before .before .before .before .before .args .h .p2) = c .before .before .before .before .before .code-of .ensures ∙ ap (codeOf card) number in
-    let judged : c .before .before .before .judge .result ≡ judgementOf card (c .before .before .before .before .before .before .before .before .args .h .p2) (oldValue card (c .before .before .before .before .before .before .before .before .args .h .p2) d) = c .before .before .before .judge .ensures ∙ ap (λ (k : ℕ). judgementOf card k (now (c .before .before .before .before .old-value .result))) number ∙ ap (judgementOf card (c .before .before .before .before .before .before .before .before .args .h .p2)) (c .before .before .before .before .old-value .ensures ∙ ap (λ (v : Code). take (v .len) d) code) in
-    old-wrong card (c .before .before .before .before .before .before .before .before .args .h .p2) (c .before .before .before .before .before .before .before .before .args .h .p2) d _ (c .before .before .before .judge .result) judged (c .if1 .taken)
+    let a = c .before .before .before .before .before .before .before .before .args in
+    old-wrong (a .card) (a .h .p2) (a .h .p2) (now (a .values)) _ (c .before .before .before .judge .result) (judged (c .before .before .before)) (c .if1 .taken)
 
 new-value-requires : tie.Need-new-value-requires
 new-value-requires c κs = search needs
@@ -49,14 +61,9 @@ disallowed-requires c κs = search needs
 returns-2 : tie.Need-returns-2
 unfolding change
 returns-2 c =
-    let card : Card = c .before .before .before .before .before .before .before .before .before .before .before .before .args .card in
-    let d : Bytes = now (c .before .before .before .before .before .before .before .before .before .before .before .before .args .values) in
-    let number : c .before .before .before .before .before .before .before .before .before .before .wide .result ≡ c .before .before .before .before .before .before .before .before .before .before .before .before .args .h .p2 = c .before .before .before .before .before .before .before .before .before .before .wide .ensures in
-    let code : c .before .before .before .before .before .before .before .before .before .code-of .result ≡ codeOf card (c .before .before .before .before .before .before .before .before .before .before .before .before .args .h .p2) = c .before .before .before .before .before .before .before .before .before .code-of .ensures ∙ ap (codeOf card) number in
-    let judged : c .before .before .before .before .before .before .before .judge .result ≡ judgementOf card (c .before .before .before .before .before .before .before .before .before .before .before .before .args .h .p2) (oldValue card (c .before .before .before .before .before .before .before .before .before .before .before .before .args .h .p2) d) = c .before .before .before .before .before .before .before .judge .ensures ∙ ap (λ (k : ℕ). judgementOf card k (now (c .before .before .before .before .before .before .before .before .old-value .result))) number ∙ ap (judgementOf card (c .before .before .before .before .before .before .before .before .before .before .before .before .args .h .p2)) (c .before .before .before .before .before .before .before .before .old-value .ensures ∙ ap (λ (v : Code). take (v .len) d) code) in
-    let new : now (c .before .before .before .new-value .result) ≡ newValue card (c .before .before .before .before .before .before .before .before .before .before .before .before .args .h .p2) d = c .before .before .before .new-value .ensures ∙ ap (λ (v : Code). drop (v .len) d) code in
-    let same-test : c .before .before .allowed .result ≡ allowed (c .before .before .before .before .before .before .before .before .before .before .before .before .args .h .p2) (newValue card (c .before .before .before .before .before .before .before .before .before .before .before .before .args .h .p2) d) = c .before .before .allowed .ensures ∙ ap (λ (k : ℕ). allowed k (now (c .before .before .before .new-value .result))) number ∙ ap (allowed (c .before .before .before .before .before .before .before .before .before .before .before .before .args .h .p2)) new in
-    c .disallowed .ensures ∙ new-refused card (c .before .before .before .before .before .before .before .before .before .before .before .before .args .h .p2) (c .before .before .before .before .before .before .before .before .before .before .before .before .args .h .p2) d _ (c .before .before .before .before .before .before .before .judge .result) judged (c .before .before .before .before .if1 .left) (ap not (sym same-test) ∙ c .before .if2 .taken)
+    let a = c .before .before .before .before .before .before .before .before .before .before .before .before .args in
+    c .disallowed .ensures
+    ∙ new-refused (a .card) (a .h .p2) (a .h .p2) (now (a .values)) _ (c .before .before .before .before .before .before .before .judge .result) (judged (c .before .before .before .before .before .before .before)) (c .before .before .before .before .if1 .left) (ap not (sym (test (c .before .before))) ∙ c .before .if2 .taken)
 
 storing-requires : tie.Need-storing-requires
 storing-requires c κs = search needs
@@ -67,16 +74,11 @@ with-code-requires c κs = search needs
 returns-3 : tie.Need-returns-3
 unfolding change
 returns-3 c =
-    let card : Card = c .before .before .before .before .before .before .before .before .before .before .before .before .before .args .card in
-    let d : Bytes = now (c .before .before .before .before .before .before .before .before .before .before .before .before .before .args .values) in
-    let number : c .before .before .before .before .before .before .before .before .before .before .before .wide .result ≡ c .before .before .before .before .before .before .before .before .before .before .before .before .before .args .h .p2 = c .before .before .before .before .before .before .before .before .before .before .before .wide .ensures in
-    let code : c .before .before .before .before .before .before .before .before .before .before .code-of .result ≡ codeOf card (c .before .before .before .before .before .before .before .before .before .before .before .before .before .args .h .p2) = c .before .before .before .before .before .before .before .before .before .before .code-of .ensures ∙ ap (codeOf card) number in
-    let judged : c .before .before .before .before .before .before .before .before .judge .result ≡ judgementOf card (c .before .before .before .before .before .before .before .before .before .before .before .before .before .args .h .p2) (oldValue card (c .before .before .before .before .before .before .before .before .before .before .before .before .before .args .h .p2) d) = c .before .before .before .before .before .before .before .before .judge .ensures ∙ ap (λ (k : ℕ). judgementOf card k (now (c .before .before .before .before .before .before .before .before .before .old-value .result))) number ∙ ap (judgementOf card (c .before .before .before .before .before .before .before .before .before .before .before .before .before .args .h .p2)) (c .before .before .before .before .before .before .before .before .before .old-value .ensures ∙ ap (λ (v : Code). take (v .len) d) code) in
-    let new : now (c .before .before .before .before .new-value .result) ≡ newValue card (c .before .before .before .before .before .before .before .before .before .before .before .before .before .args .h .p2) d = c .before .before .before .before .new-value .ensures ∙ ap (λ (v : Code). drop (v .len) d) code in
-    let same-test : c .before .before .before .allowed .result ≡ allowed (c .before .before .before .before .before .before .before .before .before .before .before .before .before .args .h .p2) (newValue card (c .before .before .before .before .before .before .before .before .before .before .before .before .before .args .h .p2) d) = c .before .before .before .allowed .ensures ∙ ap (λ (k : ℕ). allowed k (now (c .before .before .before .before .new-value .result))) number ∙ ap (allowed (c .before .before .before .before .before .before .before .before .before .before .before .before .before .args .h .p2)) new in
-    let fits : not (allowed (c .before .before .before .before .before .before .before .before .before .before .before .before .before .args .h .p2) (newValue card (c .before .before .before .before .before .before .before .before .before .before .before .before .before .args .h .p2) d)) ≡ false = ap not (sym same-test) ∙ c .before .before .if2 .left in
-    simp (c .with-code .ensures, c .before .storing .ensures, number, new, stored-whole (c .before .before .before .before .before .before .before .before .before .before .before .before .before .args .h .p2) (newValue card (c .before .before .before .before .before .before .before .before .before .before .before .before .before .args .h .p2) d) (not-false _ fits))
-    (new-stored card (c .before .before .before .before .before .before .before .before .before .before .before .before .before .args .h .p2) (c .before .before .before .before .before .before .before .before .before .before .before .before .before .args .h .p2) d _ (c .before .before .before .before .before .before .before .before .judge .result) judged (c .before .before .before .before .before .if1 .left) fits)
+    let a = c .before .before .before .before .before .before .before .before .before .before .before .before .before .args in
+    let value : Bytes = newValue (a .card) (a .h .p2) (now (a .values)) in
+    let fits : not (allowed (a .h .p2) value) ≡ false = ap not (sym (test (c .before .before .before))) ∙ c .before .before .if2 .left in
+    simp (c .with-code .ensures, c .before .storing .ensures, c .before .before .before .before .before .before .before .before .before .before .before .wide .ensures, new (c .before .before .before .before), stored-whole (a .h .p2) value (not-false _ fits))
+    (new-stored (a .card) (a .h .p2) (a .h .p2) (now (a .values)) _ (c .before .before .before .before .before .before .before .before .judge .result) (judged (c .before .before .before .before .before .before .before .before)) (c .before .before .before .before .before .if1 .left) fits)
 
 pub change-spec : {M : Type 1} → statement M
 change-spec =

@@ -26,14 +26,22 @@ judge-requires c κs = search needs
 follow-requires : tie.Need-follow-requires
 follow-requires c κs = search needs
 
+-- The judgement of the PUK, and the new value with its test.
+judged : (c : tie.After-judge) → c .judge .result ≡ judgementOf (c .before .before .before .before .args .card) 0 (oldValue (c .before .before .before .before .args .card) 0 (now (c .before .before .before .before .args .values)))
+judged c =
+    c .judge .ensures ∙ ap (judgementOf (c .before .before .before .before .args .card) 0) (c .before .old-value .ensures ∙ ap (λ (v : Code). take (v .len) (now (c .before .before .before .before .args .values))) (c .before .before .code-of .ensures))
+
+new : (c : tie.After-new-value) → now (c .new-value .result) ≡ newValue (c .before .before .before .before .before .before .before .args .card) 0 (now (c .before .before .before .before .before .before .before .args .values))
+new c = c .new-value .ensures ∙ ap (λ (v : Code). drop (v .len) (now (c .before .before .before .before .before .before .before .args .values))) (c .before .before .before .before .before .code-of .ensures)
+
+test : (c : tie.After-allowed) → c .allowed .result ≡ allowed (c .before .before .before .before .before .before .before .before .args .pin) (newValue (c .before .before .before .before .before .before .before .before .args .card) 0 (now (c .before .before .before .before .before .before .before .before .args .values)))
+test c = c .allowed .ensures ∙ ap (allowed (c .before .before .before .before .before .before .before .before .args .pin)) (new (c .before))
+
 returns : tie.Need-returns
 unfolding unblockByPresentedPuk
 returns c =
-    let card : Card = c .before .before .before .before .before .before .before .args .card in
-    let d : Bytes = now (c .before .before .before .before .before .before .before .args .values) in
-    let puk : c .before .before .before .before .before .code-of .result ≡ codeOf card 0 = c .before .before .before .before .before .code-of .ensures in
-    let judged : c .before .before .before .judge .result ≡ judgementOf card 0 (oldValue card 0 d) = c .before .before .before .judge .ensures ∙ ap (judgementOf card 0) (c .before .before .before .before .old-value .ensures ∙ ap (λ (v : Code). take (v .len) d) puk) in
-    c .follow .ensures ∙ old-wrong card 0 (c .before .before .before .before .before .before .before .args .pin) d _ (c .before .before .before .judge .result) judged (c .before .if1 .taken)
+    let a = c .before .before .before .before .before .before .before .args in
+    c .follow .ensures ∙ old-wrong (a .card) 0 (a .pin) (now (a .values)) _ (c .before .before .before .judge .result) (judged (c .before .before .before)) (c .before .if1 .taken)
 
 new-value-requires : tie.Need-new-value-requires
 new-value-requires c κs = search needs
@@ -47,13 +55,9 @@ disallowed-requires c κs = search needs
 returns-2 : tie.Need-returns-2
 unfolding unblockByPresentedPuk
 returns-2 c =
-    let card : Card = c .before .before .before .before .before .before .before .before .before .before .args .card in
-    let d : Bytes = now (c .before .before .before .before .before .before .before .before .before .before .args .values) in
-    let puk : c .before .before .before .before .before .before .before .before .code-of .result ≡ codeOf card 0 = c .before .before .before .before .before .before .before .before .code-of .ensures in
-    let judged : c .before .before .before .before .before .before .judge .result ≡ judgementOf card 0 (oldValue card 0 d) = c .before .before .before .before .before .before .judge .ensures ∙ ap (judgementOf card 0) (c .before .before .before .before .before .before .before .old-value .ensures ∙ ap (λ (v : Code). take (v .len) d) puk) in
-    let new : now (c .before .before .before .new-value .result) ≡ newValue card 0 d = c .before .before .before .new-value .ensures ∙ ap (λ (v : Code). drop (v .len) d) puk in
-    let same-test : c .before .before .allowed .result ≡ allowed (c .before .before .before .before .before .before .before .before .before .before .args .pin) (newValue card 0 d) = c .before .before .allowed .ensures ∙ ap (allowed (c .before .before .before .before .before .before .before .before .before .before .args .pin)) new in
-    c .disallowed .ensures ∙ new-refused card 0 (c .before .before .before .before .before .before .before .before .before .before .args .pin) d _ (c .before .before .before .before .before .before .judge .result) judged (c .before .before .before .before .if1 .left) (ap not (sym same-test) ∙ c .before .if2 .taken)
+    let a = c .before .before .before .before .before .before .before .before .before .before .args in
+    c .disallowed .ensures
+    ∙ new-refused (a .card) 0 (a .pin) (now (a .values)) _ (c .before .before .before .before .before .before .judge .result) (judged (c .before .before .before .before .before .before)) (c .before .before .before .before .if1 .left) (ap not (sym (test (c .before .before))) ∙ c .before .if2 .taken)
 
 storing-requires : tie.Need-storing-requires
 storing-requires c κs = search needs
@@ -70,15 +74,11 @@ with-code-requires-2 c κs = search needs
 returns-3 : tie.Need-returns-3
 unfolding unblockByPresentedPuk
 returns-3 c =
-    let card : Card = c .before .before .before .before .before .before .before .before .before .before .before .before .before .args .card in
-    let d : Bytes = now (c .before .before .before .before .before .before .before .before .before .before .before .before .before .args .values) in
-    let puk : c .before .before .before .before .before .before .before .before .before .before .before .code-of .result ≡ codeOf card 0 = c .before .before .before .before .before .before .before .before .before .before .before .code-of .ensures in
-    let judged : c .before .before .before .before .before .before .before .before .before .judge .result ≡ judgementOf card 0 (oldValue card 0 d) = c .before .before .before .before .before .before .before .before .before .judge .ensures ∙ ap (judgementOf card 0) (c .before .before .before .before .before .before .before .before .before .before .old-value .ensures ∙ ap (λ (v : Code). take (v .len) d) puk) in
-    let new : now (c .before .before .before .before .before .before .new-value .result) ≡ newValue card 0 d = c .before .before .before .before .before .before .new-value .ensures ∙ ap (λ (v : Code). drop (v .len) d) puk in
-    let same-test : c .before .before .before .before .before .allowed .result ≡ allowed (c .before .before .before .before .before .before .before .before .before .before .before .before .before .args .pin) (newValue card 0 d) = c .before .before .before .before .before .allowed .ensures ∙ ap (allowed (c .before .before .before .before .before .before .before .before .before .before .before .before .before .args .pin)) new in
-    let fits : not (allowed (c .before .before .before .before .before .before .before .before .before .before .before .before .before .args .pin) (newValue card 0 d)) ≡ false = ap not (sym same-test) ∙ c .before .before .before .before .if2 .left in
-    simp (c .with-code2 .ensures, c .before .before .with-code .ensures, c .before .renewed .ensures, puk, c .before .before .before .storing .ensures, new, stored-whole (c .before .before .before .before .before .before .before .before .before .before .before .before .before .args .pin) (newValue card 0 d) (not-false _ fits))
-    (new-stored card 0 (c .before .before .before .before .before .before .before .before .before .before .before .before .before .args .pin) d _ (c .before .before .before .before .before .before .before .before .before .judge .result) judged (c .before .before .before .before .before .before .before .if1 .left) fits)
+    let a = c .before .before .before .before .before .before .before .before .before .before .before .before .before .args in
+    let value : Bytes = newValue (a .card) 0 (now (a .values)) in
+    let fits : not (allowed (a .pin) value) ≡ false = ap not (sym (test (c .before .before .before .before .before))) ∙ c .before .before .before .before .if2 .left in
+    simp (c .with-code2 .ensures, c .before .before .with-code .ensures, c .before .renewed .ensures, c .before .before .before .before .before .before .before .before .before .before .before .code-of .ensures, c .before .before .before .storing .ensures, new (c .before .before .before .before .before .before), stored-whole (a .pin) value (not-false _ fits))
+    (new-stored (a .card) 0 (a .pin) (now (a .values)) _ (c .before .before .before .before .before .before .before .before .before .judge .result) (judged (c .before .before .before .before .before .before .before .before .before)) (c .before .before .before .before .before .before .before .if1 .left) fits)
 
 pub unblock-by-presented-puk-spec : {M : Type 1} → statement M
 unblock-by-presented-puk-spec =
