@@ -14,7 +14,6 @@ use Rattle.rules.specs.FileCommands.{select, readRecord, readBinary, getRespons
 use Rattle.rules.specs.CodeCommands.{verify, change, resetRetry}
 use Rattle.rules.specs.KeyCommands.{setEnvironment, chooseKey, internalAuthenticate, sign, decipher}
 use Rattle.rules.specs.Judgement.{classes, instructions, badChaining, goodParameters, goodLengths, dropPending, sessionCommand, ownRules, judgeHeader}
-use Rattle.judgement.specs.Admitted.{signOrSession}
 
 module _ (c : Card) (h : Header) (d authentication signature : Bytes) where
   abbrev dropped : Session
@@ -61,15 +60,6 @@ module _ (c : Card) (h : Header) (d authentication signature : Bytes) where
         ne-eqb (h .ins) 0x88 k,
       )
 
-  -- SIGN or not
-  pub to-sign : (eqb (h .ins) 0x2A && eqb (h .p1) 0x9E) ≡ true → sign c (dropPending c .session) h d ≡ signOrSession c h d authentication signature
-  unfolding signOrSession
-  to-sign e = simp e
-
-  pub to-session : (eqb (h .ins) 0x2A && eqb (h .p1) 0x9E) ≡ false → inSession c inSessionOnly ≡ signOrSession c h d authentication signature
-  unfolding signOrSession
-  to-session e = simp e
-
   abbrev own : Step
   own = ownRules c h d authentication signature
 
@@ -86,9 +76,14 @@ module _ (c : Card) (h : Header) (d authentication signature : Bytes) where
   unfolding ownRules
   to-reset-retry i = simp i
 
-  pub to-others : h .ins ≢ 0x20 → h .ins ≢ 0x24 → h .ins ≢ 0x2C → signOrSession c h d authentication signature ≡ own
-  unfolding ownRules signOrSession
-  to-others a b e = simp (ne-eqb (h .ins) 0x20 a, ne-eqb (h .ins) 0x24 b, ne-eqb (h .ins) 0x2C e)
+  module _ (verifies : h .ins ≢ 0x20) (changes : h .ins ≢ 0x24) (resets : h .ins ≢ 0x2C) where
+    pub to-sign : (eqb (h .ins) 0x2A && eqb (h .p1) 0x9E) ≡ true → sign c (dropPending c .session) h d ≡ own
+    unfolding ownRules
+    to-sign e = simp (ne-eqb (h .ins) 0x20 verifies, ne-eqb (h .ins) 0x24 changes, ne-eqb (h .ins) 0x2C resets, e)
+
+    pub to-session : (eqb (h .ins) 0x2A && eqb (h .p1) 0x9E) ≡ false → inSession c inSessionOnly ≡ own
+    unfolding ownRules
+    to-session e = simp (ne-eqb (h .ins) 0x20 verifies, ne-eqb (h .ins) 0x24 changes, ne-eqb (h .ins) 0x2C resets, e)
 
   -- steps 2 to 6
   abbrev judged : Step

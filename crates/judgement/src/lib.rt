@@ -16,7 +16,7 @@ ghost use Rattle.code_commands.specs.Judging.{stepOf};
 ghost use Rattle.answers.specs.Reach.{leInReach};
 ghost use Rattle.session_steps.specs.Steps.{sessionStepOf};
 ghost use Rattle.key_commands.specs.Steps.{cardStepOf};
-ghost use Rattle.judgement.specs.Admitted.{Sized, Admitted, signOrSession};
+ghost use Rattle.judgement.specs.Admitted.{Sized, Admitted};
 
 // The step of a command that answers by a status word alone, and of one that changes nothing but the session.
 fn from_status(step: Stepped) -> CardOutput
@@ -87,26 +87,6 @@ fn session_command<'a>(
     }
 }
 
-// SIGN, and the commands that change nothing but the session.
-fn sign_or_session<'a>(
-    card: Card,
-    h: Header,
-    d: &'a [u8],
-    authentication: &'a [u8],
-    signature: &'a [u8],
-) -> CardOutput
-    requires { ⌜ Admitted h (now d) ⌝ }
-    ensures { λ r. ⌜ cardStepOf r ≡ signOrSession card h (now (d .entry)) (now (authentication .entry)) (now (signature .entry)) ⌝ }
-{
-    let ins = h.ins;
-    if (ins == 0x2A) & (h.p1 == 0x9E) {
-        let bare = state::drop_pending(card);
-        let session = bare.session;
-        return key_commands::sign(card, session, h, d);
-    }
-    from_session(card, session_command(card, h, d, authentication, signature))
-}
-
 // Step 7: the command's own rules.
 fn own_rules<'a>(
     card: Card,
@@ -123,7 +103,15 @@ fn own_rules<'a>(
         0x20 => from_status(code_commands::verify(state::drop_pending(card), h, d)),
         0x24 => from_status(code_commands::change(state::drop_pending(card), h, d)),
         0x2C => from_status(code_commands::reset_retry(state::drop_pending(card), h, d)),
-        _ => sign_or_session(card, h, d, authentication, signature),
+        _ => {
+            if (ins == 0x2A) & (h.p1 == 0x9E) {
+                let bare = state::drop_pending(card);
+                let session = bare.session;
+                key_commands::sign(card, session, h, d)
+            } else {
+                from_session(card, session_command(card, h, d, authentication, signature))
+            }
+        }
     }
 }
 

@@ -1,5 +1,7 @@
-use Rattle.judgement.proofs.Dispatch.{to-verify, to-change, to-reset-retry, to-others}
+use Rattle.judgement.proofs.Dispatch.{to-verify, to-change, to-reset-retry, to-sign, to-session}
+use Rattle.rules.specs.Answers.{inSession}
 use Rattle.rules.specs.CodeCommands.{verify, change, resetRetry}
+use Rattle.rules.specs.KeyCommands.{sign}
 use Rattle.rules.specs.declared.Card.{Card}
 use denote.Ref.{now}
 use mathlib.Core.Path.{ap, _∙_}
@@ -34,8 +36,17 @@ reset-retry-requires c κs = search needs
 from-status-requires-3 : tie.Need-from-status-requires-3
 from-status-requires-3 c κs = search needs
 
-sign-or-session-requires : tie.Need-sign-or-session-requires
-sign-or-session-requires c κs = search needs
+drop-pending-requires-4 : tie.Need-drop-pending-requires-4
+drop-pending-requires-4 c κs = search needs
+
+sign-requires : tie.Need-sign-requires
+sign-requires c κs = search needs
+
+session-command-requires : tie.Need-session-command-requires
+session-command-requires c κs = search needs
+
+from-session-requires : tie.Need-from-session-requires
+from-session-requires c κs = search needs
 
 returns : tie.Need-returns
 returns c =
@@ -63,9 +74,19 @@ returns-3 c =
 
 returns-4 : tie.Need-returns-4
 returns-4 c =
-    let a = c .before .before .before .before .before .args in
-    c .sign-or-session .ensures
-    ∙ to-others (a .card) (a .h) (now (a .d)) (now (a .authentication)) (now (a .signature)) (c .before .match .rest .0 .0 .1) (c .before .match .rest .0 .1) (c .before .match .rest .1)
+    let a = c .before .before .before .before .before .before .before .before .before .args in
+    let others = c .before .before .before .before .before .match .rest in
+    c .sign .ensures
+    ∙ ap (λ (x : Card). sign (a .card) (x .session) (a .h) (now (a .d))) (c .before .before .drop-pending4 .ensures)
+    ∙ to-sign (a .card) (a .h) (now (a .d)) (now (a .authentication)) (now (a .signature)) (others .0 .0 .1) (others .0 .1) (others .1) (c .before .before .before .if1 .taken)
+
+returns-5 : tie.Need-returns-5
+returns-5 c =
+    let a = c .before .before .before .before .before .before .before .before .args in
+    let others = c .before .before .before .before .match .rest in
+    c .from-session .ensures
+    ∙ ap (inSession (a .card)) (c .before .session-command .ensures)
+    ∙ to-session (a .card) (a .h) (now (a .d)) (now (a .authentication)) (now (a .signature)) (others .0 .0 .1) (others .0 .1) (others .1) (c .before .before .if1 .left)
 
 pub own-rules-spec : {M : Type 1} → statement M
 own-rules-spec =
@@ -80,8 +101,12 @@ own-rules-spec =
     drop-pending-requires-3
     reset-retry-requires
     from-status-requires-3
-    sign-or-session-requires
+    drop-pending-requires-4
+    sign-requires
+    session-command-requires
+    from-session-requires
     returns
     returns-2
     returns-3
-    returns-4)
+    returns-4
+    returns-5)
