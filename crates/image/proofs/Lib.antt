@@ -1,4 +1,5 @@
 pub mod Readers
+pub mod Filling
 pub mod Codes
 pub mod Keys
 pub mod References

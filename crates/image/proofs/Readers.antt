@@ -2,10 +2,10 @@
 use mathlib.Core.Path.{_≡_, refl, sym, ap, _∙_}
 use mathlib.Core.Bool.{Bool, true, false, cond, _&&_}
 use mathlib.Core.List.{[], _∷_}
-use Prim.Native.Nat.{ℕ, zero, suc, _+_, _-_, _<_, _≤_}
+use Prim.Native.Nat.{ℕ, zero, suc, _+_, _<_}
 use native.Mathlib.Omega.{arith}
 use native.Mathlib.Numerals.{add-one}
-use lib.ListN.{length, take, drop, drop-of-length-le}
+use lib.ListN.{length, drop, drop-of-length-le}
 use lib.Dec.{eqb, ltb, leb}
 use lib.Seq.{drop-cons, getD-drop}
 use borrow.Author.Tests.{ltb-true, ltb-false, lt-ltb, le-leb, eqb-true}
@@ -15,10 +15,10 @@ use Rattle.rules.specs.declared.Fault.{Fault}
 use Rattle.rules.specs.declared.Fault.the-variants.{EndsEarly, WrongCount, LeftOver}
 use Rattle.rules.specs.Image.{Read, got, fault, Reader, continued, pure, require, byteIf, anyByte, bytesIf, count, end}
 use Rattle.image_reader.specs.declared.NextByte.the-variants.{Byte, End}
-use Rattle.image_reader.specs.Reading.{nextAt}
+use Rattle.image_reader.specs.Reading.{nextAt, placeAfter}
 use Rattle.image.specs.declared.Cursor.{Cursor}
 use Rattle.image.specs.declared.Cursor.the-variants.{At, Stopped}
-use Rattle.image.specs.Positions.{from, upTo, positionOf, judged}
+use Rattle.image.specs.Positions.{from, upTo, judged}
 
 -- One reading after another: in pieces, and with what is done next put otherwise.
 pub in-pieces : {A B C : Type 0} (r : Read A) (f : A → Reader B) (g : B → Reader C) → continued (continued r f) g ≡ continued r (λ a b. continued (f a b) g)
@@ -55,16 +55,17 @@ stopped-there image c f e m a = rw e
 
 -- The next byte.
 module _ (image : Bytes) (at : ℕ) where
-  pub byte-there : {x : ℕ} → nextAt image at ≡ Byte x → at < length image
+  byte-there : {x : ℕ} → nextAt image at ≡ Byte x → at < length image
   unfolding nextAt
   byte-there e = by-test _ (ltb at (length image)) (ltb-true at (length image)) (λ n. let z : _≡_ {A = ℕ} 0 1 = cc in absurd (omega arith))
 
-  pub byte-read : {x : ℕ} → nextAt image at ≡ Byte x → (c : Cursor) → c ≡ At at → upTo image (At (at + 1)) x ≡ from image c anyByte
-  unfolding nextAt from byteIf
-  byte-read {x} e c p =
+  pub byte-read : {x : ℕ} → nextAt image at ≡ Byte x → {next : ℕ} → next ≡ placeAfter image at → (c : Cursor) → c ≡ At at → upTo image (At next) x ≡ from image c anyByte
+  unfolding nextAt placeAfter from byteIf
+  byte-read {x} e q c p =
       let h : at < length image = byte-there e in
       let same : x ≡ byteAt image at = cc (lt-ltb at (length image) h) in
-      rw (p, add-one, drop-cons image at 0, same)
+      let place : placeAfter image at ≡ suc at = rw (lt-ltb at (length image) h, add-one) in
+      rw (p, q, place, drop-cons image at 0, same)
 
   past-end : nextAt image at ≡ End → drop at image ≡ []
   unfolding nextAt
@@ -120,42 +121,6 @@ module _ (image : Bytes) where
 
   pub counted : (c d : Cursor) (x n : ℕ) → upTo image d x ≡ from image c anyByte → upTo image (judged d (eqb x n) WrongCount) n ≡ from image c (count n)
   counted c d x n e = same-count d x n WrongCount ∙ byte-judged (λ x. eqb x n) WrongCount c d x e
-
--- n bytes, one after another, of which nothing is kept.
-abbrev pub skipping : (ℕ → Bool) → Fault → ℕ → Reader Unit
-skipping test f n b = continued (bytesIf test f n b) (λ _. pure tt)
-
--- They are the first n bytes.
-taken : (test : ℕ → Bool) (f : Fault) (n : ℕ) (b : Bytes) → continued (bytesIf test f n b) (λ _. pure (take n b)) ≡ bytesIf test f n b
-unfolding bytesIf byteIf
-taken test f zero b = refl
-taken test f (suc n) [] = refl
-taken test f (suc n) (x ∷ b) = by-test _ (test x)
-    (λ e. rw e (in-pieces (bytesIf test f n b) _ _ ∙ sym (in-pieces (bytesIf test f n b) (λ _. pure (take n b)) (λ xs. pure (x ∷ xs))) ∙ ap (λ (r : Read Bytes). continued r (λ xs. pure (x ∷ xs))) (taken test f n b)))
-    (λ e. rw e)
-
-module _ (image : Bytes) (test : ℕ → Bool) (f : Fault) where
-  -- A turn of a loop over n bytes: after i of them the next one is read.
-  pub one-byte-more : (c d : Cursor) (x : ℕ) → upTo image d x ≡ from image c (byteIf test f) → (n i : ℕ) → i < n
-      → from image d (skipping test f (n - (i + 1))) ≡ from image c (skipping test f (n - i))
-  unfolding bytesIf
-  one-byte-more c d x e n i h =
-      let one : n - i ≡ suc (n - (i + 1)) = omega arith in
-      after image c d (byteIf test f) x (λ _. skipping test f (n - (i + 1))) e
-      ∙ same-from image c (λ b. rw one (sym (in-pieces (byteIf test f b) _ _ ∙ same-next (byteIf test f b) (λ x b. in-pieces (bytesIf test f (n - (i + 1)) b) _ _))))
-
-  pub no-byte-more : (c : Cursor) (n i : ℕ) → n ≤ i → upTo image c tt ≡ from image c (skipping test f (n - i))
-  unfolding bytesIf
-  no-byte-more c n i h = let none : n - i ≡ 0 = omega arith in rw none
-
-  pub bytes-read : (c d : Cursor) (n : ℕ) → upTo image d tt ≡ from image c (skipping test f n) → upTo image d (take n (drop (positionOf c) image)) ≡ from image c (bytesIf test f n)
-  unfolding from positionOf
-  bytes-read c d n e =
-      after image c d (skipping test f n) tt (λ _. pure (take n (drop (positionOf c) image))) e ∙ kept c
-    where
-      kept : (c : Cursor) → from image c (λ b. continued (skipping test f n b) (λ _. pure (take n (drop (positionOf c) image)))) ≡ from image c (bytesIf test f n)
-      kept (At at) = in-pieces (bytesIf test f n (drop at image)) _ _ ∙ taken test f n (drop at image)
-      kept (Stopped g) = refl
 
 -- Every byte is within 0 and 255.
 module _ (f : Fault) where

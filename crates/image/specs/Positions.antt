@@ -1,5 +1,4 @@
 -- The rule book's readings, followed by a cursor through the image.
-use Prim.Native.Nat.{ℕ}
 use mathlib.Core.Bool.{Bool, cond}
 use lib.ListN.{drop}
 use Rattle.octets.specs.Octets.{Bytes}
@@ -16,11 +15,6 @@ from image (Stopped f) reader = fault f
 -- What was read up to the cursor.
 abbrev pub upTo : {A : Type 0} → Bytes → Cursor → A → Read A
 upTo image cursor a = from image cursor (pure a)
-
--- The cursor's position; 0 where reading has stopped.
-unfoldable pub positionOf : Cursor → ℕ
-positionOf (At at) = at
-positionOf (Stopped f) = 0
 
 -- The cursor after a test that reads nothing.
 unfoldable pub judged : Cursor → Bool → Fault → Cursor

@@ -15,10 +15,11 @@ use rules::Session;
 ghost use mathlib.Core.Path.{_≡_};
 ghost use mathlib.Core.Bool.{true, _&&_};
 ghost use lib.Dec.{leb};
-ghost use lib.ListN.{take, drop, replicate};
+ghost use Prim.Native.Nat.{_<_};
+ghost use lib.ListN.{take, replicate};
 ghost use Rattle.rules.specs.Codes.{zeroCode};
 ghost use Rattle.rules.specs.Image.{byteIf, anyByte, bytesIf, anyBytes, count, readCode, readPersonal, readRecords, end, zeroRecord, zeroCard, load};
-ghost use Rattle.image.specs.Positions.{from, upTo, positionOf, judged};
+ghost use Rattle.image.specs.Positions.{from, upTo, judged};
 ghost use Rattle.image.specs.Sections.{codeSection, keyAfter, withMark, markedKeys, keySection, referenceSection, personalSection, cardOf};
 
 // How far reading has come: to a position, or to the first fault, after which nothing more is read.
@@ -29,6 +30,12 @@ pub enum Cursor {
 
 pub struct ReadByte {
     pub byte: u8,
+    pub cursor: Cursor,
+}
+
+// As many bytes as were asked for, at most 255, and zeros after them.
+pub struct ReadBytes {
+    pub bytes: [u8; 256],
     pub cursor: Cursor,
 }
 
@@ -68,16 +75,6 @@ pub struct ReadRecords {
     pub cursor: Cursor,
 }
 
-// The position of a cursor; 0 where reading has stopped.
-fn position(cursor: Cursor) -> usize
-    ensures { λ r. ⌜ r ≡ positionOf cursor ⌝ }
-{
-    match cursor {
-        Cursor::At(at) => at,
-        Cursor::Stopped(_) => 0,
-    }
-}
-
 // The next byte, whatever it is.
 fn any_byte(image: &[u8], cursor: Cursor) -> ReadByte
     ensures { λ r. ⌜ upTo (now (image .entry)) (r .cursor) (r .byte) ≡ from (now (image .entry)) cursor anyByte ⌝ }
@@ -90,7 +87,7 @@ fn any_byte(image: &[u8], cursor: Cursor) -> ReadByte
         Cursor::At(at) => match image_reader::read_at(image, at) {
             NextByte::Byte(byte) => ReadByte {
                 byte: byte,
-                cursor: Cursor::At(at + 1),
+                cursor: Cursor::At(image_reader::place_after(image, at)),
             },
             NextByte::End => ReadByte {
                 byte: 0,
@@ -140,23 +137,30 @@ fn count(image: &[u8], cursor: Cursor, n: u8) -> Cursor
     judged(there, read.byte == n, Fault::WrongCount)
 }
 
-// n bytes, each judged by its limits. They stand in the image from the first cursor on.
-fn run(image: &[u8], cursor: Cursor, n: usize, low: usize, high: usize, fault: Fault) -> Cursor
-    ensures { λ r. ⌜ upTo (now (image .entry)) r (take n (drop (positionOf cursor) (now (image .entry)))) ≡ from (now (image .entry)) cursor (bytesIf (λ x. leb low x && leb x high) fault n) ⌝ }
+// n bytes, each judged by its limits.
+fn run(image: &[u8], cursor: Cursor, n: usize, low: usize, high: usize, fault: Fault) -> ReadBytes
+    requires { ⌜ n < 256 ⌝ }
+    ensures { λ r. ⌜ upTo (now (image .entry)) (r .cursor) (take n (r .bytes)) ≡ from (now (image .entry)) cursor (bytesIf (λ x. leb low x && leb x high) fault n) ⌝ }
 {
+    let mut bytes = [0u8; 256];
     let mut there = cursor;
     let mut i = 0;
     while i < n {
         let read = byte_within(image, there, low, high, fault);
+        bytes[i] = read.byte;
         there = read.cursor;
         i += 1;
     }
-    there
+    ReadBytes {
+        bytes: bytes,
+        cursor: there,
+    }
 }
 
 // n bytes, whatever they are.
-fn any_bytes(image: &[u8], cursor: Cursor, n: usize) -> Cursor
-    ensures { λ r. ⌜ upTo (now (image .entry)) r (take n (drop (positionOf cursor) (now (image .entry)))) ≡ from (now (image .entry)) cursor (anyBytes n) ⌝ }
+fn any_bytes(image: &[u8], cursor: Cursor, n: usize) -> ReadBytes
+    requires { ⌜ n < 256 ⌝ }
+    ensures { λ r. ⌜ upTo (now (image .entry)) (r .cursor) (take n (r .bytes)) ≡ from (now (image .entry)) cursor (anyBytes n) ⌝ }
 {
     run(image, cursor, n, 0, 255, Fault::EndsEarly)
 }
@@ -187,10 +191,10 @@ fn read_code(image: &[u8], cursor: Cursor, number: usize) -> ReadCode
     );
     let n = numbers::wide(len.byte);
     let first = len.cursor;
-    let last = run(image, first, n, 0x30, 0x39, Fault::BadCode);
-    let digits = octets::part(image, position(first), n);
+    let digits = run(image, first, n, 0x30, 0x39, Fault::BadCode);
+    let last = digits.cursor;
     let tries = byte_within(image, last, 0, numbers::wide(Code::TRIES), Fault::BadCode);
-    let code = codes::storing(digits, tries.byte, false);
+    let code = codes::storing(octets::part(&digits.bytes, 0, n), tries.byte, false);
     let after = tries.cursor;
     ReadCode {
         code: code,
@@ -299,8 +303,9 @@ fn reference_section(image: &[u8], cursor: Cursor, keys: [bool; 4]) -> ReadRefer
     ensures { λ r. ⌜ upTo (now (image .entry)) (r .cursor) (r .references) ≡ from (now (image .entry)) cursor (referenceSection keys) ⌝ }
 {
     let first = count(image, cursor, 21);
-    let last = any_bytes(image, first, 21);
-    let references = arrays::filled_21(octets::part(image, position(first), 21));
+    let read = any_bytes(image, first, 21);
+    let last = read.cursor;
+    let references = arrays::filled_21(octets::part(&read.bytes, 0, 21));
     let authentication = keys::usable(keys, 1, keys::active_key(references, 1));
     let signature = keys::usable(keys, 2, keys::active_key(references, 2));
     let after = judged(last, authentication & signature, Fault::BadReference);
@@ -317,11 +322,11 @@ fn read_record(image: &[u8], cursor: Cursor) -> ReadRecord
     let len = byte_within(image, cursor, 1, 64, Fault::RecordLength);
     let n = numbers::wide(len.byte);
     let first = len.cursor;
-    let after = any_bytes(image, first, n);
-    let bytes = octets::part(image, position(first), n);
+    let read = any_bytes(image, first, n);
+    let after = read.cursor;
     let personal = Record {
-        bytes: arrays::filled_64(bytes),
-        len: bytes.len(),
+        bytes: arrays::filled_64(octets::part(&read.bytes, 0, n)),
+        len: n,
     };
     ReadRecord {
         personal: personal,

@@ -1,7 +1,8 @@
-// A card image read byte by byte. A reader holds the image and a position in it. The borrow checker covers no function over such a struct, so `new` and `next` are
-// proved by hand, and so is `read_at`, which has plain parameters and stands above them; `byte_from`, which takes a plain slice, does the work.
+// A card image read byte by byte. A reader holds the image and a position in it. The borrow checker covers no function over such a struct, so `new`, `next`, `after`
+// and `place` are proved by hand, and so are `read_at` and `place_after`, which have plain parameters and stand above them; `byte_from` and `place_from`, which take a
+// plain slice, do the work.
 ghost use mathlib.Core.Path.{_≡_};
-ghost use Rattle.image_reader.specs.Reading.{nextAt};
+ghost use Rattle.image_reader.specs.Reading.{nextAt, placeAfter};
 
 pub struct Reader<'a> {
     pub image: &'a [u8],
@@ -24,6 +25,16 @@ pub fn byte_from(image: &[u8], at: usize) -> NextByte
     NextByte::End
 }
 
+// The place after the byte at a position; at the end the place stays.
+pub fn place_from(image: &[u8], at: usize) -> usize
+    ensures { λ r. ⌜ r ≡ placeAfter (now (image .entry)) at ⌝ }
+{
+    if image.len() <= at {
+        return at;
+    }
+    at + 1
+}
+
 // A reader of an image, at a position.
 pub fn new<'a>(image: &'a [u8], at: usize) -> Reader<'a>
     ensures { λ r. ⌜ (r .image ≡ image .entry) × (r .at ≡ at) ⌝ }
@@ -38,9 +49,33 @@ pub fn next<'a>(r: Reader<'a>) -> NextByte
     byte_from(r.image, r.at)
 }
 
+// The reader after its next byte.
+pub fn after<'a>(r: Reader<'a>) -> Reader<'a>
+    ensures { λ q. ⌜ (q .image ≡ r .entry .image) × (q .at ≡ placeAfter (now (r .entry .image)) (r .entry .at)) ⌝ }
+{
+    Reader {
+        image: r.image,
+        at: place_from(r.image, r.at),
+    }
+}
+
+// Where a reader stands.
+pub fn place<'a>(r: Reader<'a>) -> usize
+    ensures { λ n. ⌜ n ≡ r .entry .at ⌝ }
+{
+    r.at
+}
+
 // What a reader of an image finds at a position.
 pub fn read_at(image: &[u8], at: usize) -> NextByte
     ensures { λ b. ⌜ b ≡ nextAt (now (image .entry)) at ⌝ }
 {
     next(new(image, at))
+}
+
+// Where a reader of an image, put at a position, stands after its next byte.
+pub fn place_after(image: &[u8], at: usize) -> usize
+    ensures { λ n. ⌜ n ≡ placeAfter (now (image .entry)) at ⌝ }
+{
+    place(after(new(image, at)))
 }

@@ -1,10 +1,6 @@
 use mathlib.Core.Path.{sym, _∙_}
-use Prim.Native.Nat.{_<_}
-use native.Mathlib.Omega.{arith}
-use lib.ListN.{length}
 use denote.Ref.{now}
-use Rattle.octets.specs.Octets.{Bytes}
-use Rattle.image.proofs.Readers.{stopped-there, byte-there, byte-read, byte-missing}
+use Rattle.image.proofs.Readers.{stopped-there, byte-read, byte-missing}
 use borrow.Author.Needs.{needs}
 use Rattle.image.proofs.any_byte.Statement.{statement}
 use Rattle.image.proofs.any_byte.Tie as tie
@@ -21,11 +17,8 @@ read-at-requires c κs = search needs
 enum-known-byte : tie.Need-enum-known-byte
 enum-known-byte c = search needs
 
-add-t10 : tie.Need-add-t10
-add-t10 c =
-    let image : Bytes = now (c .before .before .before .before .before .before .before .before .args .image) in
-    let there : c .before .before .before .before .before .cursor2 .given .0 .0 < length image = byte-there image _ (sym (c .before .before .before .read-at .ensures) ∙ c .before .byte .given .1) in
-    omega (arith, there)
+place-after-requires : tie.Need-place-after-requires
+place-after-requires c κs = search needs
 
 enum-told : tie.Need-enum-told
 enum-told c = search needs
@@ -34,7 +27,7 @@ returns : tie.Need-returns
 returns c = stopped-there (now (c .before .before .before .before .args .image)) _ _ (c .before .cursor .given .1) _ _
 
 returns-2 : tie.Need-returns-2
-returns-2 c = byte-read (now (c .before .before .before .before .before .before .before .before .args .image)) _ (sym (c .before .before .before .read-at .ensures) ∙ c .before .byte .given .1) _ (c .before .before .before .before .before .cursor2 .given .1)
+returns-2 c = byte-read (now (c .before .before .before .before .before .before .before .before .before .args .image)) _ (sym (c .before .before .before .before .read-at .ensures) ∙ c .before .before .byte .given .1) (c .place-after .ensures) _ (c .before .before .before .before .before .before .cursor2 .given .1)
 
 returns-3 : tie.Need-returns-3
 returns-3 c = byte-missing (now (c .before .before .before .before .before .before .before .args .image)) _ (sym (c .before .before .read-at .ensures) ∙ c .enum-told .given .1) _ (c .before .before .before .before .cursor2 .given .1)
@@ -47,7 +40,7 @@ any-byte-spec =
     enum-known-cursor-2
     read-at-requires
     enum-known-byte
-    add-t10
+    place-after-requires
     enum-told
     returns
     returns-2

@@ -1,18 +1,20 @@
-use mathlib.Core.Path.{_≡_, _∙_}
+use mathlib.Core.Path.{_≡_, sym, ap, _∙_}
 use Prim.Native.Nat.{_-_, _≤_}
 use native.Mathlib.Omega.{arith}
 use borrow.Author.Needs.{needs}
 use lib.ListN.{length, take, length-set}
+use lib.Seq.{take-all}
 use denote.Ref.{now}
 use Rattle.rules.specs.Image.{readRecords}
-use Rattle.image.specs.Positions.{from}
-use Rattle.image.proofs.Records.{recordsFrom, no-record-yet, one-record-more, no-record-more}
+use Rattle.image.specs.Positions.{from, upTo}
+use Rattle.image.proofs.Filling.{following, none-yet, one-more, no-more}
+use Rattle.image.proofs.Records.{records-repeat}
 use Rattle.image.proofs.read_records.Statement.{statement}
 use Rattle.image.proofs.read_records.Tie as tie
 
 abbrev Inv-loop : tie.InvT-loop
 Inv-loop image personal₀ there₀ i₀ personal there i =
-    (i ≤ 16) × (length personal ≡ 16) × (from image there (recordsFrom (take i personal) (16 - i)) ≡ from image there₀ (readRecords 16))
+    (i ≤ 16) × (length personal ≡ 16) × (from image there (following readRecords (take i personal) (16 - i)) ≡ from image there₀ (readRecords 16))
 
 abbrev μ-loop : tie.MeasureT-loop
 μ-loop image personal₀ there₀ i₀ personal there i = 16 - i
@@ -21,7 +23,7 @@ zero-records-requires : tie.Need-zero-records-requires Inv-loop μ-loop
 zero-records-requires c κs = search needs
 
 loop-holds : tie.Need-loop-holds Inv-loop μ-loop
-loop-holds c = (omega arith, rw (c .zero-records .ensures), no-record-yet (now (c .before .before .args .image)) (c .zero-records .result) (c .before .before .args .cursor))
+loop-holds c = (omega arith, rw (c .zero-records .ensures), none-yet records-repeat (now (c .before .before .args .image)) 16 (c .before .before .args .cursor))
 
 read-record-requires : tie.Need-read-record-requires Inv-loop μ-loop
 read-record-requires c κs = search needs
@@ -39,10 +41,15 @@ loop-less : tie.Need-loop-less Inv-loop μ-loop
 loop-less c = omega arith
 
 loop-again : tie.Need-loop-again Inv-loop μ-loop
-loop-again c = (omega arith, simp length-set (c .before .before .before .loop .inv .1), one-record-more (now (c .before .before .before .before .before .before .args .image)) (c .before .before .before .loop .personal) (c .before .before .before .loop .i) (c .before .before .before .loop .inv .1) _ _ _ (c .before .read-record .ensures) (omega arith) ∙ c .before .before .before .loop .inv .2)
+loop-again c = (omega arith, simp length-set (c .before .before .before .loop .inv .1), one-more records-repeat (now (c .before .before .before .before .before .before .args .image)) (c .before .before .before .loop .personal) 16 (c .before .before .before .loop .i) (omega arith) (omega arith) _ _ _ (c .before .read-record .ensures) ∙ c .before .before .before .loop .inv .2)
 
 returns : tie.Need-returns Inv-loop μ-loop
-returns c = no-record-more (now (c .before .before .before .before .args .image)) (c .before .loop .personal) (c .before .loop .i) (c .before .loop .inv .1) _ (omega arith) ∙ c .before .loop .inv .2
+returns c =
+    let image = now (c .before .before .before .before .args .image) in
+    let records = c .before .loop .personal in
+    ap (upTo image (c .before .loop .there)) (sym (take-all 16 records (omega arith)))
+    ∙ no-more records-repeat image records 16 (c .before .loop .i) (omega arith) (omega arith) _
+    ∙ c .before .loop .inv .2
 
 pub read-records-spec : {M : Type 1} → statement M
 read-records-spec =

@@ -1,12 +1,7 @@
 use mathlib.Core.Path.{_≡_, ap, _∙_}
-use mathlib.Core.Bool.{Bool}
-use mathlib.Core.List.{List}
-use Prim.Native.Nat.{ℕ}
-use lib.ListN.{take, drop}
+use lib.ListN.{take}
 use denote.Ref.{now}
 use Rattle.octets.specs.Octets.{Bytes, filled}
-use Rattle.image.specs.declared.Cursor.{Cursor}
-use Rattle.image.specs.Positions.{positionOf}
 use Rattle.image.proofs.References.{references-read}
 use borrow.Author.Needs.{needs}
 use Rattle.image.proofs.reference_section.Statement.{statement}
@@ -17,9 +12,6 @@ count-requires c κs = search needs
 
 any-bytes-requires : tie.Need-any-bytes-requires
 any-bytes-requires c κs = search needs
-
-position-requires : tie.Need-position-requires
-position-requires c κs = search needs
 
 part-requires : tie.Need-part-requires
 part-requires c κs = search needs
@@ -44,14 +36,11 @@ judged-requires c κs = search needs
 
 returns : tie.Need-returns
 returns c =
-    let image : Bytes = now (c .before .before .before .before .before .before .before .before .before .before .before .args .image) in
-    let keys : List Bool = c .before .before .before .before .before .before .before .before .before .before .before .args .keys in
-    let first : Cursor = c .before .before .before .before .before .before .before .before .before .count .result in
-    let d : Bytes = take 21 (drop (positionOf first) image) in
-    let bytes : now (c .before .before .before .before .before .before .part .result) ≡ d = c .before .before .before .before .before .before .part .ensures ∙ ap (λ (at : ℕ). take 21 (drop at image)) (c .before .before .before .before .before .before .before .position .ensures) in
-    let references : c .before .before .before .before .before .filled-21 .result ≡ filled 21 (take 21 d) = c .before .before .before .before .before .filled-21 .ensures ∙ ap (λ (b : Bytes). filled 21 (take 21 b)) bytes in
+    let a = c .before .before .before .before .before .before .before .before .before .before .before .before .before .args in
+    let d : Bytes = take 21 (c .before .before .before .before .before .before .before .before .before .before .any-bytes .result .bytes) in
+    let references : c .before .before .before .before .before .filled-21 .result ≡ filled 21 (take 21 d) = c .before .before .before .before .before .filled-21 .ensures ∙ ap (λ (b : Bytes). filled 21 (take 21 b)) (c .before .before .before .before .before .before .part .ensures) in
     simp (c .judged .ensures, c .before .before .before .usable .ensures, c .before .usable2 .ensures, c .before .before .before .before .active-key .ensures, c .before .before .active-key2 .ensures, references)
-    (references-read image keys (c .before .before .before .before .before .before .before .before .before .before .before .args .cursor) first (c .before .before .before .before .before .before .before .before .any-bytes .result) d (c .before .before .before .before .before .before .before .before .before .count .ensures) (c .before .before .before .before .before .before .before .before .any-bytes .ensures))
+    (references-read (now (a .image)) (a .keys) (a .cursor) (c .before .before .before .before .before .before .before .before .before .before .before .count .result) (c .before .before .before .before .before .before .before .before .before .before .any-bytes .result .cursor) d (c .before .before .before .before .before .before .before .before .before .before .before .count .ensures) (c .before .before .before .before .before .before .before .before .before .before .any-bytes .ensures))
 
 pub reference-section-spec : {M : Type 1} → statement M
 reference-section-spec =
@@ -59,7 +48,6 @@ reference-section-spec =
     (tie.spec
     count-requires
     any-bytes-requires
-    position-requires
     part-requires
     filled-21-requires
     active-key-requires

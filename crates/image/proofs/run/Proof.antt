@@ -1,29 +1,36 @@
-use mathlib.Core.Path.{_≡_, ap, _∙_}
+use mathlib.Core.Path.{_≡_, refl, _∙_}
 use mathlib.Core.Bool.{_&&_}
-use Prim.Native.Nat.{ℕ, _-_, _≤_}
-use native.Mathlib.Nat.{sub-zero}
+use Prim.Native.Nat.{_-_, _≤_}
 use native.Mathlib.Omega.{arith}
 use borrow.Author.Needs.{needs}
 use lib.Dec.{leb}
+use lib.ListN.{length, take, length-set}
 use denote.Ref.{now}
+use Rattle.rules.specs.Image.{bytesIf}
 use Rattle.image.specs.Positions.{from}
-use Rattle.image.proofs.Readers.{skipping, one-byte-more, no-byte-more, bytes-read}
+use Rattle.image.proofs.Filling.{bytes-repeat, following, none-yet, one-more, no-more}
 use Rattle.image.proofs.run.Statement.{statement}
 use Rattle.image.proofs.run.Tie as tie
 
 abbrev Inv-loop : tie.InvT-loop
-Inv-loop image n low high fault there₀ i₀ there i =
+Inv-loop image n low high fault bytes₀ there₀ i₀ bytes there i =
     (i ≤ n)
-    × (from image there (skipping (λ x. leb low x && leb x high) fault (n - i)) ≡ from image there₀ (skipping (λ x. leb low x && leb x high) fault n))
+    × (length bytes ≡ 256)
+    × (from image there (following (bytesIf (λ x. leb low x && leb x high) fault) (take i bytes) (n - i)) ≡ from image there₀ (bytesIf (λ x. leb low x && leb x high) fault n))
 
 abbrev μ-loop : tie.MeasureT-loop
-μ-loop image n low high fault there₀ i₀ there i = n - i
+μ-loop image n low high fault bytes₀ there₀ i₀ bytes there i = n - i
 
 loop-holds : tie.Need-loop-holds Inv-loop μ-loop
-loop-holds c = (omega arith, ap (λ (m : ℕ). from (now (c .before .args .image)) (c .before .args .cursor) (skipping (λ x. leb (c .before .args .low) x && leb x (c .before .args .high)) (c .before .args .fault) m)) (sub-zero (c .before .args .n)))
+loop-holds c =
+    let a = c .before .args in
+    (omega arith, refl, none-yet (bytes-repeat (λ x. leb (a .low) x && leb x (a .high)) (a .fault)) (now (a .image)) (a .n) (a .cursor))
 
 byte-within-requires : tie.Need-byte-within-requires Inv-loop μ-loop
 byte-within-requires c κs = search needs
+
+array-write-bytes : tie.Need-array-write-bytes Inv-loop μ-loop
+array-write-bytes c = omega arith
 
 add-i : tie.Need-add-i Inv-loop μ-loop
 add-i c = omega arith
@@ -32,12 +39,31 @@ loop-less : tie.Need-loop-less Inv-loop μ-loop
 loop-less c = omega arith
 
 loop-again : tie.Need-loop-again Inv-loop μ-loop
-loop-again c = (omega arith, one-byte-more (now (c .before .before .before .before .args .image)) (λ x. leb (c .before .before .before .before .args .low) x && leb x (c .before .before .before .before .args .high)) (c .before .before .before .before .args .fault) _ _ _ (c .byte-within .ensures) (c .before .before .before .before .args .n) (c .before .before .loop .i) (omega arith) ∙ c .before .before .loop .inv .1)
+loop-again c =
+    let a = c .before .before .before .before .args in
+    let l = c .before .before .loop in (
+      omega arith,
+      simp length-set (l .inv .1),
+      one-more (bytes-repeat (λ x. leb (a .low) x && leb x (a .high)) (a .fault)) (now (a .image)) (l .bytes) (a .n) (l .i) (omega arith) (omega arith) _ _ _ (c .byte-within .ensures)
+          ∙ l .inv .2,
+    )
 
 returns : tie.Need-returns Inv-loop μ-loop
-returns c = bytes-read (now (c .before .before .before .args .image)) (λ x. leb (c .before .before .before .args .low) x && leb x (c .before .before .before .args .high)) (c .before .before .before .args .fault) (c .before .before .before .args .cursor) _ (c .before .before .before .args .n) (no-byte-more _ _ _ _ _ _ (omega arith) ∙ c .before .loop .inv .1)
+returns c =
+    let a = c .before .before .before .args in
+    no-more (bytes-repeat (λ x. leb (a .low) x && leb x (a .high)) (a .fault)) (now (a .image)) (c .before .loop .bytes) (a .n) (c .before .loop .i) (omega arith) (omega arith) _
+    ∙ c .before .loop .inv .2
 
 pub run-spec : {M : Type 1} → statement M
 run-spec =
     tie.close
-    (tie.spec Inv-loop μ-loop loop-holds byte-within-requires add-i loop-less loop-again returns)
+    (tie.spec
+    Inv-loop
+    μ-loop
+    loop-holds
+    byte-within-requires
+    array-write-bytes
+    add-i
+    loop-less
+    loop-again
+    returns)
