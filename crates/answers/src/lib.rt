@@ -129,7 +129,7 @@ pub fn write(card: Card, output: Output, buffer: &mut [u8]) -> Outcome
     let len = output.len;
     let shown = octets::part(&bytes, 0, len);
     let at = shown.len();
-    octets::copy_at(buffer, 0, shown);
+    writing::copy_at(buffer, 0, shown);
     let kind = output.kind;
     if kind != 0 {
         return Outcome {

@@ -39,7 +39,7 @@ pub fn filled_12(s: &[u8]) -> [u8; 12]
     ensures { λ r. ⌜ r ≡ filled 12 (take 12 (now (s .entry))) ⌝ }
 {
     let mut bytes_12 = blank_12();
-    octets::copy_at(&mut bytes_12, 0, s);
+    writing::copy_at(&mut bytes_12, 0, s);
     bytes_12
 }
 
@@ -47,7 +47,7 @@ pub fn filled_21(s: &[u8]) -> [u8; 21]
     ensures { λ r. ⌜ r ≡ filled 21 (take 21 (now (s .entry))) ⌝ }
 {
     let mut bytes_21 = blank_21();
-    octets::copy_at(&mut bytes_21, 0, s);
+    writing::copy_at(&mut bytes_21, 0, s);
     bytes_21
 }
 
@@ -55,7 +55,7 @@ pub fn filled_64(s: &[u8]) -> [u8; 64]
     ensures { λ r. ⌜ r ≡ filled 64 (take 64 (now (s .entry))) ⌝ }
 {
     let mut bytes_64 = blank_64();
-    octets::copy_at(&mut bytes_64, 0, s);
+    writing::copy_at(&mut bytes_64, 0, s);
     bytes_64
 }
 
@@ -63,7 +63,7 @@ pub fn filled_256(s: &[u8]) -> [u8; 256]
     ensures { λ r. ⌜ r ≡ filled 256 (take 256 (now (s .entry))) ⌝ }
 {
     let mut bytes_256 = blank_256();
-    octets::copy_at(&mut bytes_256, 0, s);
+    writing::copy_at(&mut bytes_256, 0, s);
     bytes_256
 }
 
@@ -71,6 +71,6 @@ pub fn filled_257(s: &[u8]) -> [u8; 257]
     ensures { λ r. ⌜ r ≡ filled 257 (take 257 (now (s .entry))) ⌝ }
 {
     let mut bytes_257 = blank_257();
-    octets::copy_at(&mut bytes_257, 0, s);
+    writing::copy_at(&mut bytes_257, 0, s);
     bytes_257
 }

@@ -103,7 +103,7 @@ pub fn power_reset(card: Card) -> Outcome
         card_codes::closed(card_codes::closed(card, Code::PUK), Code::PIN1),
         Code::PIN2,
     );
-    let session = state::new_session();
+    let session = pending::new_session();
     Outcome {
         card: state::with_session(closed, session),
         reply: Reply::WasReset,

@@ -206,14 +206,14 @@ pub fn get_response(s: Session, h: Header) -> SessionOutput
     let all = octets::part(&bytes, 0, len);
     let n = all.len();
     if n == 0 {
-        return session_steps::session_status(state::drop_held(s), 0x6985);
+        return session_steps::session_status(pending::drop_held(s), 0x6985);
     }
     let le = h.le;
     if n <= le {
-        return session_steps::session_data(state::drop_held(s), all, 0x9000);
+        return session_steps::session_data(pending::drop_held(s), all, 0x9000);
     }
     let rest = octets::part(all, le, n);
-    let next = state::with_held(s, rest);
+    let next = pending::with_held(s, rest);
     let more = session_steps::more_bytes(rest);
     session_steps::session_data(next, octets::part(all, 0, le), more)
 }

@@ -438,7 +438,7 @@ fn card_of(c: ReadCodes, keys: [bool; 4], r: ReadReferences, p: ReadRecords) -> 
     let codes = c.codes;
     let references = r.references;
     let personal = p.personal;
-    let session = state::new_session();
+    let session = pending::new_session();
     Card {
         codes: codes,
         keys: keys,

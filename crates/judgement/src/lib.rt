@@ -47,7 +47,7 @@ pub fn refuse(card: Card, sw: u16) -> CardOutput
 {
     let output = answers::status(sw);
     CardOutput {
-        card: state::drop_pending(card),
+        card: pending::drop_pending(card),
         output: output,
     }
 }
@@ -74,16 +74,16 @@ fn session_command<'a>(
     ensures { λ r. ⌜ sessionStepOf r ≡ sessionCommand card h (now (d .entry)) (now (authentication .entry)) (now (signature .entry)) ⌝ }
 {
     let kept = card.session;
-    let dropped = state::drop_held(state::drop_chain(kept));
+    let dropped = pending::drop_held(pending::drop_chain(kept));
     let ins = h.ins;
     match ins {
         0xA4 => file_commands::select(dropped, h, d),
         0xB2 => file_commands::read_record(card, dropped, h),
         0xB0 => file_commands::read_binary(dropped, h, authentication, signature),
-        0xC0 => file_commands::get_response(state::drop_chain(kept), h),
+        0xC0 => file_commands::get_response(pending::drop_chain(kept), h),
         0x22 => manage(card, dropped, h, d),
         0x88 => key_commands::internal_authenticate(card, dropped, h, d),
-        _ => key_commands::decipher(card, state::drop_held(kept), h, d),
+        _ => key_commands::decipher(card, pending::drop_held(kept), h, d),
     }
 }
 
@@ -100,12 +100,12 @@ fn own_rules<'a>(
 {
     let ins = h.ins;
     match ins {
-        0x20 => from_status(code_commands::verify(state::drop_pending(card), h, d)),
-        0x24 => from_status(code_commands::change(state::drop_pending(card), h, d)),
-        0x2C => from_status(code_commands::reset_retry(state::drop_pending(card), h, d)),
+        0x20 => from_status(code_commands::verify(pending::drop_pending(card), h, d)),
+        0x24 => from_status(code_commands::change(pending::drop_pending(card), h, d)),
+        0x2C => from_status(code_commands::reset_retry(pending::drop_pending(card), h, d)),
         _ => {
             if (ins == 0x2A) & (h.p1 == 0x9E) {
-                let bare = state::drop_pending(card);
+                let bare = pending::drop_pending(card);
                 let session = bare.session;
                 key_commands::sign(card, session, h, d)
             } else {

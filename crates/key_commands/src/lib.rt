@@ -116,7 +116,7 @@ fn joined(s: Session, d: &[u8]) -> [u8; 257]
     let len = chain.len;
     let before = octets::part(&bytes, 0, len);
     let mut both = arrays::filled_257(before);
-    octets::copy_at(&mut both, before.len(), d);
+    writing::copy_at(&mut both, before.len(), d);
     both
 }
 
@@ -141,7 +141,7 @@ fn last_256(cryptogram: [u8; 257]) -> [u8; 256]
 fn decipher_whole(card: Card, s: Session, h: Header, cryptogram: [u8; 257]) -> SessionOutput
     ensures { λ r. ⌜ sessionStepOf r ≡ decipherWhole card s h cryptogram ⌝ }
 {
-    let emptied = state::drop_chain(s);
+    let emptied = pending::drop_chain(s);
     if cryptogram[0] != 0x00 {
         return session_steps::session_status(emptied, 0x6A80);
     }
@@ -163,16 +163,16 @@ pub fn decipher(card: Card, s: Session, h: Header, d: &[u8]) -> SessionOutput
 {
     let before = chain_length(s);
     if 257 - before < d.len() {
-        return session_steps::session_status(state::drop_chain(s), 0x6700);
+        return session_steps::session_status(pending::drop_chain(s), 0x6700);
     }
     let len = before + d.len();
     let both = joined(s, d);
     if h.cla == 0x10 {
-        let next = state::with_chain(s, octets::part(&both, 0, len));
+        let next = pending::with_chain(s, octets::part(&both, 0, len));
         return session_steps::session_status(next, 0x9000);
     }
     if len != 257 {
-        return session_steps::session_status(state::drop_chain(s), 0x6700);
+        return session_steps::session_status(pending::drop_chain(s), 0x6700);
     }
     decipher_whole(card, s, h, both)
 }

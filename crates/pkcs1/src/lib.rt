@@ -26,9 +26,9 @@ pub extern "C" fn shoalpennant_pad(message: &[u8], buffer: &mut [u8]) -> usize
     let start = BLOCK - message.len();
     buffer[0] = 0x00;
     buffer[1] = 0x01;
-    octets::fill(buffer, 2, start - 3, 0xFF);
+    writing::fill(buffer, 2, start - 3, 0xFF);
     buffer[start - 1] = 0x00;
-    octets::copy_at(buffer, start, message);
+    writing::copy_at(buffer, start, message);
     BLOCK
 }
 

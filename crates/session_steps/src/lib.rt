@@ -56,7 +56,7 @@ pub fn give(s: Session, le: usize, d: &[u8]) -> SessionOutput
     if n <= le {
         return session_data(s, shown, 0x9000);
     }
-    let held = state::with_held(s, shown);
+    let held = pending::with_held(s, shown);
     session_status(held, more_bytes(shown))
 }
 

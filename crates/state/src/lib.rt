@@ -1,36 +1,11 @@
 // Parts of the session, replaced; and the card's session.
 use rules::Card;
-use rules::Chain;
 use rules::Environment;
-use rules::Held;
 use rules::Job;
 use rules::Selection;
 use rules::Session;
 ghost use mathlib.Core.Path.{_≡_};
-ghost use lib.ListN.{take};
-ghost use Rattle.rules.specs.Session.{holding, joining, withSelection, withEnvironment, withHeld, withChain, withJob, dropHeld, dropChain, newSession, withSession};
-ghost use Rattle.rules.specs.Judgement.{dropPending};
-
-// A held answer, and a chain, of some bytes, or of as many as fit.
-fn holding(d: &[u8]) -> Held
-    ensures { λ r. ⌜ r ≡ holding (take 256 (now (d .entry))) ⌝ }
-{
-    let kept = octets::part(d, 0, 256);
-    Held {
-        bytes: arrays::filled_256(kept),
-        len: kept.len(),
-    }
-}
-
-fn joining(d: &[u8]) -> Chain
-    ensures { λ r. ⌜ r ≡ joining (take 257 (now (d .entry))) ⌝ }
-{
-    let kept = octets::part(d, 0, 257);
-    Chain {
-        bytes: arrays::filled_257(kept),
-        len: kept.len(),
-    }
-}
+ghost use Rattle.rules.specs.Session.{withSelection, withEnvironment, withJob, withSession};
 
 // A session with one part replaced.
 pub fn with_selection(s: Session, directory: u16, file: u16) -> Session
@@ -57,71 +32,12 @@ pub fn with_environment(s: Session, number: u8, choices: [u16; 3]) -> Session
     next
 }
 
-pub fn with_held(s: Session, d: &[u8]) -> Session
-    ensures { λ r. ⌜ r ≡ withHeld s (take 256 (now (d .entry))) ⌝ }
-{
-    let held = holding(d);
-    let mut next = s;
-    next.held = held;
-    next
-}
-
-pub fn with_chain(s: Session, d: &[u8]) -> Session
-    ensures { λ r. ⌜ r ≡ withChain s (take 257 (now (d .entry))) ⌝ }
-{
-    let chain = joining(d);
-    let mut next = s;
-    next.chain = chain;
-    next
-}
-
 pub fn with_job(s: Session, job: Job) -> Session
     ensures { λ r. ⌜ r ≡ withJob s job ⌝ }
 {
     let mut next = s;
     next.job = job;
     next
-}
-
-// The held answer dropped; the chain dropped.
-pub fn drop_held(s: Session) -> Session
-    ensures { λ r. ⌜ r ≡ dropHeld s ⌝ }
-{
-    with_held(s, b"")
-}
-
-pub fn drop_chain(s: Session) -> Session
-    ensures { λ r. ⌜ r ≡ dropChain s ⌝ }
-{
-    with_chain(s, b"")
-}
-
-// What load and power reset give.
-pub fn new_session() -> Session
-    ensures { λ r. ⌜ r ≡ newSession ⌝ }
-{
-    let selection = Selection {
-        directory: 0x3F00,
-        file: 0,
-    };
-    let environment = Environment {
-        number: 1,
-        choices: [0u16; 3],
-    };
-    let job = Job {
-        kind: 0,
-        key: 0,
-        le: 0,
-    };
-    let held = holding(b"");
-    let chain = joining(b"");
-    Session {
-        selection: selection,
-        environment: environment,
-        held: held,
-        chain: chain,
-        job: job,
-    }
 }
 
 // The card with another session.
@@ -131,14 +47,4 @@ pub fn with_session(card: Card, s: Session) -> Card
     let mut next = card;
     next.session = s;
     next
-}
-
-// The card with neither a held answer nor a chain.
-pub fn drop_pending(card: Card) -> Card
-    ensures { λ r. ⌜ r ≡ dropPending card ⌝ }
-{
-    let s = card.session;
-    let chainless = drop_chain(s);
-    let bare = drop_held(chainless);
-    with_session(card, bare)
 }

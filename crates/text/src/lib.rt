@@ -21,7 +21,7 @@ fn filled_1025(s: &[u8]) -> [u8; 1025]
     ensures { λ r. ⌜ r ≡ filled 1025 (take 1025 (now (s .entry))) ⌝ }
 {
     let mut bytes = blank_1025();
-    octets::copy_at(&mut bytes, 0, s);
+    writing::copy_at(&mut bytes, 0, s);
     bytes
 }
 
@@ -43,7 +43,7 @@ pub fn with(t: Text, d: &[u8]) -> Text
     let len = t.len;
     let front = octets::part(&bytes, 0, len);
     let mut both = filled_1025(front);
-    octets::copy_at(&mut both, front.len(), d);
+    writing::copy_at(&mut both, front.len(), d);
     let whole = numbers::sum_within(front.len(), d.len(), 1025);
     Text {
         bytes: both,

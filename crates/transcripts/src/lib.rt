@@ -110,7 +110,7 @@ pub fn feed<'a>(
         let bytes = text.bytes;
         let len = text.len;
         let shown = octets::part(&bytes, 0, len);
-        octets::copy_at(buffer, written, shown);
+        writing::copy_at(buffer, written, shown);
         written = numbers::sum_within(written, shown.len(), buffer.len());
         next = first.talk;
         at += taken;

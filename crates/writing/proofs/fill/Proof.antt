@@ -7,9 +7,9 @@ use borrow.Author.Needs.{needs}
 use lib.ListN.{length, replicate, length-set, length-replicate}
 use lib.Seq.{paste, paste-zero}
 use denote.Ref.{now}
 use Rattle.octets.proofs.Pasting.{paste-byte, paste-fitting}
-use Rattle.octets.proofs.fill.Statement.{statement}
-use Rattle.octets.proofs.fill.Tie as tie
+use Rattle.writing.proofs.fill.Statement.{statement}
+use Rattle.writing.proofs.fill.Tie as tie
 
 abbrev Inv-loop : tie.InvT-loop
 Inv-loop dst₀ at n byte count j₀ dst j = (j ≤ count) × (length dst ≡ length dst₀) × (dst ≡ paste dst₀ at (replicate n byte) j)

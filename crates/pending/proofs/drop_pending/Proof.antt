@@ -1,6 +1,6 @@
 use borrow.Author.Needs.{needs}
-use Rattle.state.proofs.drop_pending.Statement.{statement}
-use Rattle.state.proofs.drop_pending.Tie as tie
+use Rattle.pending.proofs.drop_pending.Statement.{statement}
+use Rattle.pending.proofs.drop_pending.Tie as tie
 
 drop-chain-requires : tie.Need-drop-chain-requires
 drop-chain-requires c κs = search needs

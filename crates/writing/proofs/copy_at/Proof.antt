@@ -7,9 +7,9 @@ use borrow.Author.Needs.{needs}
 use lib.ListN.{length, length-set}
 use lib.Seq.{paste, paste-zero, paste-suc}
 use denote.Ref.{now}
 use Rattle.octets.proofs.Pasting.{paste-fitting}
-use Rattle.octets.proofs.copy_at.Statement.{statement}
-use Rattle.octets.proofs.copy_at.Tie as tie
+use Rattle.writing.proofs.copy_at.Statement.{statement}
+use Rattle.writing.proofs.copy_at.Tie as tie
 
 abbrev Inv-loop : tie.InvT-loop
 Inv-loop dst₀ at src count j₀ dst j = (j ≤ count) × (length dst ≡ length dst₀) × (dst ≡ paste dst₀ at src j)

@@ -1,6 +1,6 @@
 use borrow.Author.Needs.{needs}
-use Rattle.state.proofs.with_held.Statement.{statement}
-use Rattle.state.proofs.with_held.Tie as tie
+use Rattle.pending.proofs.with_held.Statement.{statement}
+use Rattle.pending.proofs.with_held.Tie as tie
 
 holding-requires : tie.Need-holding-requires
 holding-requires c κs = search needs

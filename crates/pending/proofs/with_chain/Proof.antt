@@ -1,6 +1,6 @@
 use borrow.Author.Needs.{needs}
-use Rattle.state.proofs.with_chain.Statement.{statement}
-use Rattle.state.proofs.with_chain.Tie as tie
+use Rattle.pending.proofs.with_chain.Statement.{statement}
+use Rattle.pending.proofs.with_chain.Tie as tie
 
 joining-requires : tie.Need-joining-requires
 joining-requires c κs = search needs

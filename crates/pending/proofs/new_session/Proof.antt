@@ -1,7 +1,7 @@
 use Rattle.rules.specs.Session.{newSession}
 use borrow.Author.Needs.{needs}
-use Rattle.state.proofs.new_session.Statement.{statement}
-use Rattle.state.proofs.new_session.Tie as tie
+use Rattle.pending.proofs.new_session.Statement.{statement}
+use Rattle.pending.proofs.new_session.Tie as tie
 
 slice-aggregate-holding : tie.Need-slice-aggregate-holding
 slice-aggregate-holding c = search needs
