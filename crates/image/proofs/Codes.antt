@@ -15,7 +15,7 @@ use Rattle.rules.specs.declared.Fault.the-variants.{BadCode}
 use Rattle.rules.specs.Codes.{PUK, PIN1, PIN2, least, most, fullTries, storing}
 use Rattle.rules.specs.Image.{Reader, continued, pure, byteIf, bytesIf, count, readCode}
 use Rattle.image.specs.declared.Cursor.{Cursor}
-use Rattle.image.specs.Positions.{from, upTo}
+use Rattle.image.specs.Cursors.{from, upTo}
 use Rattle.image.specs.Sections.{codeSection}
 use Rattle.image.proofs.Readers.{after, same-from, same-test, same-byte, same-bytes}
 

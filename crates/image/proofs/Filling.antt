@@ -12,7 +12,7 @@ use Rattle.octets.specs.Octets.{Bytes}
 use Rattle.rules.specs.declared.Fault.{Fault}
 use Rattle.rules.specs.Image.{Reader, continued, pure, byteIf, bytesIf}
 use Rattle.image.specs.declared.Cursor.{Cursor}
-use Rattle.image.specs.Positions.{from, upTo}
+use Rattle.image.specs.Cursors.{from, upTo}
 use Rattle.image.proofs.Readers.{in-pieces, nothing-next, same-next, after, same-from}
 
 -- n readings, one after another.

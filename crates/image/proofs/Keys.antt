@@ -14,7 +14,7 @@ use Rattle.rules.specs.declared.Fault.the-variants.{WrongCount, BadKey}
 use Rattle.rules.specs.Keys.{signatureKey, authenticationKey}
 use Rattle.rules.specs.Image.{Read, Reader, continued, pure, require, byteIf, anyByte, readKeys, keyMarks}
 use Rattle.image.specs.declared.Cursor.{Cursor}
-use Rattle.image.specs.Positions.{from, upTo, judged}
+use Rattle.image.specs.Cursors.{from, upTo, judged}
 use Rattle.image.specs.Sections.{keyAfter, withMark, markedKeys, keySection}
 use Rattle.image.proofs.Readers.{in-pieces, same-next, after, same-from, judged-law}
 

@@ -15,7 +15,7 @@ use Rattle.rules.specs.Codes.{PUK, PIN1, PIN2}
 use Rattle.rules.specs.Image.{Reader, continued, pure, require, byteIf, anyBytes, count, readCode, readKeys, eachClass, keyMarks, readRecords, end, readCard, zeroCard, loaded, load}
 use Rattle.image.specs.declared.Cursor.{Cursor}
 use Rattle.image.specs.declared.Cursor.the-variants.{At, Stopped}
-use Rattle.image.specs.Positions.{from, upTo}
+use Rattle.image.specs.Cursors.{from, upTo}
 use Rattle.image.specs.Sections.{codeSection, keySection, referenceSection, personalSection, cardOf}
 use Rattle.image.proofs.Readers.{in-pieces, same-next, after, same-from}
 use Rattle.image.proofs.References.{activeUsable}

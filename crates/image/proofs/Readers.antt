@@ -18,7 +18,7 @@ use Rattle.image_reader.specs.declared.NextByte.the-variants.{Byte, End}
 use Rattle.image_reader.specs.Reading.{nextAt, placeAfter}
 use Rattle.image.specs.declared.Cursor.{Cursor}
 use Rattle.image.specs.declared.Cursor.the-variants.{At, Stopped}
-use Rattle.image.specs.Positions.{from, upTo, judged}
+use Rattle.image.specs.Cursors.{from, upTo, judged}
 
 -- One reading after another: in pieces, and with what is done next put otherwise.
 pub in-pieces : {A B C : Type 0} (r : Read A) (f : A → Reader B) (g : B → Reader C) → continued (continued r f) g ≡ continued r (λ a b. continued (f a b) g)

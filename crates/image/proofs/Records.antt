@@ -11,9 +11,9 @@ use Rattle.octets.specs.Octets.{Bytes, filled}
 use Rattle.octets.proofs.Lists.{between}
 use Rattle.rules.specs.declared.Record.{Record}
 use Rattle.rules.specs.declared.Fault.the-variants.{EndsEarly, RecordLength}
-use Rattle.rules.specs.Image.{Reader, continued, pure, byteIf, anyBytes, count, readPersonal, readRecords}
+use Rattle.rules.specs.Image.{continued, pure, byteIf, anyBytes, count, readPersonal, readRecords}
 use Rattle.image.specs.declared.Cursor.{Cursor}
-use Rattle.image.specs.Positions.{from, upTo}
+use Rattle.image.specs.Cursors.{from, upTo}
 use Rattle.image.specs.Sections.{personalSection}
 use Rattle.image.proofs.Readers.{after, same-from, same-byte, same-bytes}
 use Rattle.image.proofs.Filling.{Repeats}

@@ -9,7 +9,7 @@ use Rattle.rules.specs.declared.Fault.the-variants.{EndsEarly, BadReference}
 use Rattle.rules.specs.Keys.{usable, activeKey}
 use Rattle.rules.specs.Image.{Reader, continued, pure, require, anyBytes, count}
 use Rattle.image.specs.declared.Cursor.{Cursor}
-use Rattle.image.specs.Positions.{from, upTo, judged}
+use Rattle.image.specs.Cursors.{from, upTo, judged}
 use Rattle.image.specs.Sections.{referenceSection}
 use Rattle.image.proofs.Readers.{after, same-from, same-bytes, judged-law}
 

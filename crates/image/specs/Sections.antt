@@ -1,4 +1,4 @@
--- The image's sections, each as one reader.
+-- The image's sections, each as one reader of the rule book.
 use Prim.Native.Nat.{ℕ}
 use mathlib.Core.Bool.{Bool, false, _&&_, _||_}
 use mathlib.Core.List.{List, [], _∷_}
@@ -46,7 +46,7 @@ markedKeys n = do
   keys ← readKeys n 0
   pure (keyMarks keys)
 
--- Keys: 2 to 4; their numbers, of each class one.
+-- Keys: 2 to 4; their numbers, of each class at least one.
 unfoldable pub keySection : Reader (List Bool)
 keySection = do
   n ← byteIf (λ n. leb 2 n && leb n 4) WrongCount

@@ -19,7 +19,7 @@ ghost use Prim.Native.Nat.{_<_};
 ghost use lib.ListN.{take, replicate};
 ghost use Rattle.rules.specs.Codes.{zeroCode};
 ghost use Rattle.rules.specs.Image.{byteIf, anyByte, bytesIf, anyBytes, count, readCode, readPersonal, readRecords, end, zeroRecord, zeroCard, load};
-ghost use Rattle.image.specs.Positions.{from, upTo, judged};
+ghost use Rattle.image.specs.Cursors.{from, upTo, judged};
 ghost use Rattle.image.specs.Sections.{codeSection, keyAfter, withMark, markedKeys, keySection, referenceSection, personalSection, cardOf};
 
 // How far reading has come: to a position, or to the first fault, after which nothing more is read.
@@ -33,7 +33,7 @@ pub struct ReadByte {
     pub cursor: Cursor,
 }
 
-// As many bytes as were asked for, at most 255, and zeros after them.
+// The bytes that were asked for stand first, at most 255 of them.
 pub struct ReadBytes {
     pub bytes: [u8; 256],
     pub cursor: Cursor,
@@ -138,7 +138,7 @@ fn count(image: &[u8], cursor: Cursor, n: u8) -> Cursor
 }
 
 // n bytes, each judged by its limits.
-fn run(image: &[u8], cursor: Cursor, n: usize, low: usize, high: usize, fault: Fault) -> ReadBytes
+fn bytes_within(image: &[u8], cursor: Cursor, n: usize, low: usize, high: usize, fault: Fault) -> ReadBytes
     requires { ⌜ n < 256 ⌝ }
     ensures { λ r. ⌜ upTo (now (image .entry)) (r .cursor) (take n (r .bytes)) ≡ from (now (image .entry)) cursor (bytesIf (λ x. leb low x && leb x high) fault n) ⌝ }
 {
@@ -162,7 +162,7 @@ fn any_bytes(image: &[u8], cursor: Cursor, n: usize) -> ReadBytes
     requires { ⌜ n < 256 ⌝ }
     ensures { λ r. ⌜ upTo (now (image .entry)) (r .cursor) (take n (r .bytes)) ≡ from (now (image .entry)) cursor (anyBytes n) ⌝ }
 {
-    run(image, cursor, n, 0, 255, Fault::EndsEarly)
+    bytes_within(image, cursor, n, 0, 255, Fault::EndsEarly)
 }
 
 // Nothing is left over.
@@ -191,7 +191,7 @@ fn read_code(image: &[u8], cursor: Cursor, number: usize) -> ReadCode
     );
     let n = numbers::wide(len.byte);
     let first = len.cursor;
-    let digits = run(image, first, n, 0x30, 0x39, Fault::BadCode);
+    let digits = bytes_within(image, first, n, 0x30, 0x39, Fault::BadCode);
     let last = digits.cursor;
     let tries = byte_within(image, last, 0, numbers::wide(Code::TRIES), Fault::BadCode);
     let code = codes::storing(octets::part(&digits.bytes, 0, n), tries.byte, false);
@@ -278,7 +278,7 @@ fn read_keys(image: &[u8], cursor: Cursor, n: usize) -> ReadKeys
     }
 }
 
-// The keys; each class has one.
+// The keys; each class has at least one.
 fn key_section(image: &[u8], cursor: Cursor) -> ReadKeys
     ensures { λ r. ⌜ upTo (now (image .entry)) (r .cursor) (r .keys) ≡ from (now (image .entry)) cursor keySection ⌝ }
 {

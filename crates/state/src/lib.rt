@@ -1,4 +1,4 @@
-// Parts of the session, replaced; and the card's session.
+// Selection, environment and job of a session replaced, and the session of a card.
 use rules::Card;
 use rules::Environment;
 use rules::Job;

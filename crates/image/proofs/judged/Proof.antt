@@ -1,4 +1,4 @@
-use Rattle.image.specs.Positions.{judged}
+use Rattle.image.specs.Cursors.{judged}
 use borrow.Author.Needs.{needs}
 use Rattle.image.proofs.judged.Statement.{statement}
 use Rattle.image.proofs.judged.Tie as tie

@@ -6,7 +6,7 @@ use Rattle.octets.specs.Octets.{Bytes}
 use Rattle.rules.specs.declared.Fault.the-variants.{WrongCount}
 use Rattle.rules.specs.Image.{byteIf}
 use Rattle.image.specs.declared.Cursor.{Cursor}
-use Rattle.image.specs.Positions.{from, upTo}
+use Rattle.image.specs.Cursors.{from, upTo}
 use Rattle.image.proofs.Keys.{keys-read}
 use borrow.Author.Needs.{needs}
 use Rattle.image.proofs.key_section.Statement.{statement}

@@ -9,7 +9,7 @@ use Rattle.rules.specs.declared.Fault.the-variants.{BadCode}
 use Rattle.rules.specs.Codes.{least, most, fullTries}
 use Rattle.rules.specs.Image.{byteIf, bytesIf}
 use Rattle.image.specs.declared.Cursor.{Cursor}
-use Rattle.image.specs.Positions.{from, upTo}
+use Rattle.image.specs.Cursors.{from, upTo}
 use Rattle.image.proofs.Codes.{code-read}
 use borrow.Author.Needs.{needs}
 use Rattle.image.proofs.read_code.Statement.{statement}
@@ -24,8 +24,8 @@ byte-within-requires c κs = search needs
 wide-requires : tie.Need-wide-requires
 wide-requires c κs = search needs
 
-run-requires : tie.Need-run-requires
-run-requires c κs = search needs
+bytes-within-requires : tie.Need-bytes-within-requires
+bytes-within-requires c κs = search needs
 
 wide-requires-2 : tie.Need-wide-requires-2
 wide-requires-2 c κs = search needs
@@ -45,14 +45,14 @@ returns c =
     let image : Bytes = now (a .image) in
     let n : ℕ = c .before .before .before .before .before .before .before .before .wide .result in
     let first : Cursor = c .before .before .before .before .before .before .before .before .before .byte-within .result .cursor in
-    let last : Cursor = c .before .before .before .before .before .before .before .run .result .cursor in
-    let d : Bytes = take n (c .before .before .before .before .before .before .before .run .result .bytes) in
+    let last : Cursor = c .before .before .before .before .before .before .before .bytes-within .result .cursor in
+    let d : Bytes = take n (c .before .before .before .before .before .before .before .bytes-within .result .bytes) in
     let tries : ℕ = c .before .before .before .before .before .byte-within2 .result .byte in
     let after : Cursor = c .before .before .before .before .before .byte-within2 .result .cursor in
     let low : c .before .before .before .before .before .before .before .before .before .before .least .result ≡ least (a .number) = c .before .before .before .before .before .before .before .before .before .before .least .ensures in
     let high : c .before .before .before .before .before .before .wide2 .result ≡ fullTries = c .before .before .before .before .before .before .wide2 .ensures in
     let len-read : upTo image first n ≡ from image (a .cursor) (byteIf (λ n. leb (least (a .number)) n && leb n most) BadCode) = rw (c .before .before .before .before .before .before .before .before .wide .ensures, ← low) (c .before .before .before .before .before .before .before .before .before .byte-within .ensures) in
-    let digits-read : upTo image last d ≡ from image first (bytesIf digit BadCode n) = c .before .before .before .before .before .before .before .run .ensures in
+    let digits-read : upTo image last d ≡ from image first (bytesIf digit BadCode n) = c .before .before .before .before .before .before .before .bytes-within .ensures in
     let digits : now (c .before .part .result) ≡ d = c .before .part .ensures in
     let tries-read : upTo image after tries ≡ from image last (byteIf (λ t. leb 0 t && leb t fullTries) BadCode) = rw (← high) (c .before .before .before .before .before .byte-within2 .ensures) in
     simp (c .storing .ensures, digits) (code-read (a .number) image (a .cursor) first last after n tries d len-read digits-read tries-read)
@@ -64,7 +64,7 @@ read-code-spec =
     least-requires
     byte-within-requires
     wide-requires
-    run-requires
+    bytes-within-requires
     wide-requires-2
     byte-within-requires-2
     part-requires

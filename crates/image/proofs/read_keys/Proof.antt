@@ -4,7 +4,7 @@ use Prim.Native.Nat.{_-_, _≤_}
 use native.Mathlib.Omega.{arith}
 use borrow.Author.Needs.{needs}
 use denote.Ref.{now}
-use Rattle.image.specs.Positions.{from}
+use Rattle.image.specs.Cursors.{from}
 use Rattle.image.specs.Sections.{markedKeys}
 use Rattle.image.proofs.Keys.{marksWith, marks-kept, marksFrom, no-key-yet, one-key-more, no-key-more}
 use Rattle.image.proofs.read_keys.Statement.{statement}

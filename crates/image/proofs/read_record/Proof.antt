@@ -8,7 +8,7 @@ use Rattle.octets.specs.Octets.{Bytes}
 use Rattle.rules.specs.declared.Fault.the-variants.{RecordLength}
 use Rattle.rules.specs.Image.{byteIf}
 use Rattle.image.specs.declared.Cursor.{Cursor}
-use Rattle.image.specs.Positions.{from, upTo}
+use Rattle.image.specs.Cursors.{from, upTo}
 use Rattle.image.proofs.Records.{record-read}
 use borrow.Author.Needs.{needs}
 use Rattle.image.proofs.read_record.Statement.{statement}

@@ -6,7 +6,7 @@ use lib.ListN.{length, take, length-set}
 use lib.Seq.{take-all}
 use denote.Ref.{now}
 use Rattle.rules.specs.Image.{readRecords}
-use Rattle.image.specs.Positions.{from, upTo}
+use Rattle.image.specs.Cursors.{from, upTo}
 use Rattle.image.proofs.Filling.{following, none-yet, one-more, no-more}
 use Rattle.image.proofs.Records.{records-repeat}
 use Rattle.image.proofs.read_records.Statement.{statement}

@@ -7,10 +7,10 @@ use lib.Dec.{leb}
 use lib.ListN.{length, take, length-set}
 use denote.Ref.{now}
 use Rattle.rules.specs.Image.{bytesIf}
-use Rattle.image.specs.Positions.{from}
+use Rattle.image.specs.Cursors.{from}
 use Rattle.image.proofs.Filling.{bytes-repeat, following, none-yet, one-more, no-more}
-use Rattle.image.proofs.run.Statement.{statement}
-use Rattle.image.proofs.run.Tie as tie
+use Rattle.image.proofs.bytes_within.Statement.{statement}
+use Rattle.image.proofs.bytes_within.Tie as tie
 
 abbrev Inv-loop : tie.InvT-loop
 Inv-loop image n low high fault bytes₀ there₀ i₀ bytes there i =
@@ -54,8 +54,8 @@ returns c =
     no-more (bytes-repeat (λ x. leb (a .low) x && leb x (a .high)) (a .fault)) (now (a .image)) (c .before .loop .bytes) (a .n) (c .before .loop .i) (omega arith) (omega arith) _
     ∙ c .before .loop .inv .2
 
-pub run-spec : {M : Type 1} → statement M
-run-spec =
+pub bytes-within-spec : {M : Type 1} → statement M
+bytes-within-spec =
     tie.close
     (tie.spec
     Inv-loop
