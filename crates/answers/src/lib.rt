@@ -56,7 +56,7 @@ pub fn in_reach(h: Header) -> Header
 pub fn status(sw: u16) -> Output
     ensures { λ r. ⌜ outputOf r ≡ response [] sw ⌝ }
 {
-    let bytes = arrays::blank_256();
+    let bytes = [0u8; 256];
     Output {
         kind: 0,
         key: 0,

@@ -1,44 +1,13 @@
 // Arrays of bytes in the sizes that the card stores.
 ghost use mathlib.Core.Path.{_≡_};
 ghost use lib.ListN.{take};
-ghost use Rattle.octets.specs.Octets.{blank, filled};
-
-// Arrays of zeros.
-pub fn blank_12() -> [u8; 12]
-    ensures { λ r. ⌜ r ≡ blank 12 ⌝ }
-{
-    [0u8; 12]
-}
-
-pub fn blank_21() -> [u8; 21]
-    ensures { λ r. ⌜ r ≡ blank 21 ⌝ }
-{
-    [0u8; 21]
-}
-
-pub fn blank_64() -> [u8; 64]
-    ensures { λ r. ⌜ r ≡ blank 64 ⌝ }
-{
-    [0u8; 64]
-}
-
-pub fn blank_256() -> [u8; 256]
-    ensures { λ r. ⌜ r ≡ blank 256 ⌝ }
-{
-    [0u8; 256]
-}
-
-pub fn blank_257() -> [u8; 257]
-    ensures { λ r. ⌜ r ≡ blank 257 ⌝ }
-{
-    [0u8; 257]
-}
+ghost use Rattle.octets.specs.Octets.{filled};
 
 // Arrays with s, or as much of it as fits, in their first places and zeros after it.
 pub fn filled_12(s: &[u8]) -> [u8; 12]
     ensures { λ r. ⌜ r ≡ filled 12 (take 12 (now (s .entry))) ⌝ }
 {
-    let mut bytes_12 = blank_12();
+    let mut bytes_12 = [0u8; 12];
     writing::copy_at(&mut bytes_12, 0, s);
     bytes_12
 }
@@ -46,7 +15,7 @@ pub fn filled_12(s: &[u8]) -> [u8; 12]
 pub fn filled_21(s: &[u8]) -> [u8; 21]
     ensures { λ r. ⌜ r ≡ filled 21 (take 21 (now (s .entry))) ⌝ }
 {
-    let mut bytes_21 = blank_21();
+    let mut bytes_21 = [0u8; 21];
     writing::copy_at(&mut bytes_21, 0, s);
     bytes_21
 }
@@ -54,7 +23,7 @@ pub fn filled_21(s: &[u8]) -> [u8; 21]
 pub fn filled_64(s: &[u8]) -> [u8; 64]
     ensures { λ r. ⌜ r ≡ filled 64 (take 64 (now (s .entry))) ⌝ }
 {
-    let mut bytes_64 = blank_64();
+    let mut bytes_64 = [0u8; 64];
     writing::copy_at(&mut bytes_64, 0, s);
     bytes_64
 }
@@ -62,7 +31,7 @@ pub fn filled_64(s: &[u8]) -> [u8; 64]
 pub fn filled_256(s: &[u8]) -> [u8; 256]
     ensures { λ r. ⌜ r ≡ filled 256 (take 256 (now (s .entry))) ⌝ }
 {
-    let mut bytes_256 = blank_256();
+    let mut bytes_256 = [0u8; 256];
     writing::copy_at(&mut bytes_256, 0, s);
     bytes_256
 }
@@ -70,7 +39,7 @@ pub fn filled_256(s: &[u8]) -> [u8; 256]
 pub fn filled_257(s: &[u8]) -> [u8; 257]
     ensures { λ r. ⌜ r ≡ filled 257 (take 257 (now (s .entry))) ⌝ }
 {
-    let mut bytes_257 = blank_257();
+    let mut bytes_257 = [0u8; 257];
     writing::copy_at(&mut bytes_257, 0, s);
     bytes_257
 }

@@ -9,7 +9,7 @@ pub fn zero_code() -> Code
     ensures { λ r. ⌜ r ≡ zeroCode ⌝ }
 {
     Code {
-        digits: arrays::blank_12(),
+        digits: [0u8; 12],
         len: 0,
         tries: 0,
         verified: false,

@@ -84,16 +84,21 @@ fn any_byte(image: &[u8], cursor: Cursor) -> ReadByte
             byte: 0,
             cursor: Cursor::Stopped(fault),
         },
-        Cursor::At(at) => match image_reader::read_at(image, at) {
-            NextByte::Byte(byte) => ReadByte {
-                byte: byte,
-                cursor: Cursor::At(image_reader::place_after(image, at)),
-            },
-            NextByte::End => ReadByte {
-                byte: 0,
-                cursor: Cursor::Stopped(Fault::EndsEarly),
-            },
-        },
+        Cursor::At(at) => {
+            let found = image_reader::read_at(image, at);
+            let next = found.next;
+            let place = found.place;
+            match next {
+                NextByte::Byte(byte) => ReadByte {
+                    byte: byte,
+                    cursor: Cursor::At(place),
+                },
+                NextByte::End => ReadByte {
+                    byte: 0,
+                    cursor: Cursor::Stopped(Fault::EndsEarly),
+                },
+            }
+        }
     }
 }
 
@@ -138,7 +143,14 @@ fn count(image: &[u8], cursor: Cursor, n: u8) -> Cursor
 }
 
 // n bytes, each judged by its limits.
-fn bytes_within(image: &[u8], cursor: Cursor, n: usize, low: usize, high: usize, fault: Fault) -> ReadBytes
+fn bytes_within(
+    image: &[u8],
+    cursor: Cursor,
+    n: usize,
+    low: usize,
+    high: usize,
+    fault: Fault,
+) -> ReadBytes
     requires { ⌜ n < 256 ⌝ }
     ensures { λ r. ⌜ upTo (now (image .entry)) (r .cursor) (take n (r .bytes)) ≡ from (now (image .entry)) cursor (bytesIf (λ x. leb low x && leb x high) fault n) ⌝ }
 {
@@ -171,10 +183,14 @@ fn end(image: &[u8], cursor: Cursor) -> Cursor
 {
     match cursor {
         Cursor::Stopped(first) => Cursor::Stopped(first),
-        Cursor::At(at) => match image_reader::read_at(image, at) {
-            NextByte::Byte(_) => Cursor::Stopped(Fault::LeftOver),
-            NextByte::End => Cursor::At(at),
-        },
+        Cursor::At(at) => {
+            let found = image_reader::read_at(image, at);
+            let next = found.next;
+            match next {
+                NextByte::Byte(_) => Cursor::Stopped(Fault::LeftOver),
+                NextByte::End => Cursor::At(at),
+            }
+        }
     }
 }
 
@@ -339,7 +355,7 @@ fn zero_records() -> [Record; 16]
     ensures { λ r. ⌜ r ≡ replicate 16 zeroRecord ⌝ }
 {
     let empty = Record {
-        bytes: arrays::blank_64(),
+        bytes: [0u8; 64],
         len: 0,
     };
     [empty; 16]
@@ -393,11 +409,11 @@ fn zero_session() -> Session
         choices: [0u16; 3],
     };
     let held = Held {
-        bytes: arrays::blank_256(),
+        bytes: [0u8; 256],
         len: 0,
     };
     let chain = Chain {
-        bytes: arrays::blank_257(),
+        bytes: [0u8; 257],
         len: 0,
     };
     let job = Job {
@@ -419,7 +435,7 @@ fn zero_card() -> Card
     ensures { λ r. ⌜ r ≡ zeroCard ⌝ }
 {
     let codes = zero_codes();
-    let references = arrays::blank_21();
+    let references = [0u8; 21];
     let personal = zero_records();
     let session = zero_session();
     Card {

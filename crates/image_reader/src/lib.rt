@@ -1,8 +1,8 @@
 // A card image read byte by byte. A reader holds the image and a position in it. The borrow checker covers no function over such a struct, so `new`, `next`, `after`
-// and `place` are proved by hand, and so are `read_at` and `place_after`, which have plain parameters and stand above them; `byte_from` and `place_from`, which take a
-// plain slice, do the work.
+// and `place` are proved by hand, and so is `read_at`, which has plain parameters and stands above them; `byte_from` and `place_from`, which take a plain slice, do
+// the work.
 ghost use mathlib.Core.Path.{_≡_};
-ghost use Rattle.image_reader.specs.Reading.{nextAt, placeAfter};
+ghost use Rattle.image_reader.specs.Reading.{nextAt, placeAfter, readerAt, readerAfter, foundAt};
 
 pub struct Reader<'a> {
     pub image: &'a [u8],
@@ -15,8 +15,14 @@ pub enum NextByte {
     End,
 }
 
+// What stands at a position, and the place after it.
+pub struct Found {
+    pub next: NextByte,
+    pub place: usize,
+}
+
 // The work: what stands at a position of an image.
-pub fn byte_from(image: &[u8], at: usize) -> NextByte
+fn byte_from(image: &[u8], at: usize) -> NextByte
     ensures { λ r. ⌜ r ≡ nextAt (now (image .entry)) at ⌝ }
 {
     if at < image.len() {
@@ -26,7 +32,7 @@ pub fn byte_from(image: &[u8], at: usize) -> NextByte
 }
 
 // The place after the byte at a position; at the end the place stays.
-pub fn place_from(image: &[u8], at: usize) -> usize
+fn place_from(image: &[u8], at: usize) -> usize
     ensures { λ r. ⌜ r ≡ placeAfter (now (image .entry)) at ⌝ }
 {
     if image.len() <= at {
@@ -36,22 +42,22 @@ pub fn place_from(image: &[u8], at: usize) -> usize
 }
 
 // A reader of an image, at a position.
-pub fn new<'a>(image: &'a [u8], at: usize) -> Reader<'a>
-    ensures { λ r. ⌜ (r .image ≡ image .entry) × (r .at ≡ at) ⌝ }
+fn new<'a>(image: &'a [u8], at: usize) -> Reader<'a>
+    ensures { λ r. ⌜ r ≡ readerAt (image .entry) at ⌝ }
 {
     Reader { image, at }
 }
 
 // The next byte, or the end.
-pub fn next<'a>(r: Reader<'a>) -> NextByte
+fn next<'a>(r: Reader<'a>) -> NextByte
     ensures { λ s. ⌜ s ≡ nextAt (now (r .entry .image)) (r .entry .at) ⌝ }
 {
     byte_from(r.image, r.at)
 }
 
 // The reader after its next byte.
-pub fn after<'a>(r: Reader<'a>) -> Reader<'a>
-    ensures { λ q. ⌜ (q .image ≡ r .entry .image) × (q .at ≡ placeAfter (now (r .entry .image)) (r .entry .at)) ⌝ }
+fn after<'a>(r: Reader<'a>) -> Reader<'a>
+    ensures { λ q. ⌜ q ≡ readerAfter (r .entry) ⌝ }
 {
     Reader {
         image: r.image,
@@ -60,22 +66,19 @@ pub fn after<'a>(r: Reader<'a>) -> Reader<'a>
 }
 
 // Where a reader stands.
-pub fn place<'a>(r: Reader<'a>) -> usize
+fn place<'a>(r: Reader<'a>) -> usize
     ensures { λ n. ⌜ n ≡ r .entry .at ⌝ }
 {
     r.at
 }
 
-// What a reader of an image finds at a position.
-pub fn read_at(image: &[u8], at: usize) -> NextByte
-    ensures { λ b. ⌜ b ≡ nextAt (now (image .entry)) at ⌝ }
+// What a reader of an image finds at a position, and where it stands afterwards.
+pub fn read_at(image: &[u8], at: usize) -> Found
+    ensures { λ f. ⌜ f ≡ foundAt (now (image .entry)) at ⌝ }
 {
-    next(new(image, at))
-}
-
-// Where a reader of an image, put at a position, stands after its next byte.
-pub fn place_after(image: &[u8], at: usize) -> usize
-    ensures { λ n. ⌜ n ≡ placeAfter (now (image .entry)) at ⌝ }
-{
-    place(after(new(image, at)))
+    let r = new(image, at);
+    Found {
+        next: next(r),
+        place: place(after(r)),
+    }
 }

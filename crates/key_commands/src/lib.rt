@@ -42,7 +42,7 @@ fn padded_block(d: &[u8]) -> [u8; 256]
     requires { ⌜ length (now d) ≤ 245 ⌝ }
     ensures { λ r. ⌜ r ≡ padded (now (d .entry)) ⌝ }
 {
-    let mut block = arrays::blank_256();
+    let mut block = [0u8; 256];
     pkcs1::shoalpennant_pad(d, &mut block);
     block
 }

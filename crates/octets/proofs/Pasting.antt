@@ -1,5 +1,5 @@
 -- Laws of a string written into another, and of the part of a string from a place on.
-use mathlib.Core.Path.{_≡_, _∙_}
+use mathlib.Core.Path.{_≡_, refl, _∙_}
 use mathlib.Core.List.{[], _∷_, _++_, append-assoc, append-nil}
 use Prim.Native.Nat.{ℕ, zero, suc, _+_, _-_, _<_, _≤_, min}
 use native.Mathlib.Nat.{sub-zero, zero-sub, suc-sub-suc, zero-add}
@@ -35,6 +35,10 @@ paste-byte dst at n byte j h k =
     let l : length (replicate n byte) ≡ n = length-replicate n byte in
     rw (getD-replicate n j byte 0 k) at (paste-suc dst at (replicate n byte) j 0 h (omega arith))
 
+pub zeros : (n : ℕ) → replicate n 0 ≡ blank n
+unfolding blank
+zeros n = refl
+
 pub length-blank : (n : ℕ) → length (blank n) ≡ n
 unfolding blank
 length-blank n = length-replicate n 0
@@ -52,7 +56,7 @@ pasted-blank n s =
     let left : n - min n (length s) ≡ n - length s = omega arith in
     rw (length-blank n, sub-zero n, zero-add (length s), drop-zeros (length s) n, length-take n s, left)
 
-pub filled-by : (n : ℕ) (s : Bytes) {zeros written : Bytes} → zeros ≡ blank n → written ≡ pasted zeros 0 s → written ≡ filled n (take n s)
+pub filled-by : (n : ℕ) (s : Bytes) {room written : Bytes} → room ≡ blank n → written ≡ pasted room 0 s → written ≡ filled n (take n s)
 filled-by n s e w = w ∙ rw e (pasted-blank n s)
 
 -- The n bytes from a place on, where there are fewer.

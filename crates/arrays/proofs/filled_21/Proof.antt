@@ -1,11 +1,8 @@
 use borrow.Author.Needs.{needs}
 use denote.Ref.{now}
-use Rattle.octets.proofs.Pasting.{filled-by}
+use Rattle.octets.proofs.Pasting.{zeros, filled-by}
 use Rattle.arrays.proofs.filled_21.Statement.{statement}
 use Rattle.arrays.proofs.filled_21.Tie as tie
-
-blank-21-requires : tie.Need-blank-21-requires
-blank-21-requires c κs = search needs
 
 slice-aggregate-copy-at : tie.Need-slice-aggregate-copy-at
 slice-aggregate-copy-at c = search needs
@@ -14,8 +11,8 @@ copy-at-requires : tie.Need-copy-at-requires
 copy-at-requires c κs = search needs
 
 returns : tie.Need-returns
-returns c = filled-by 21 (now (c .before .before .before .before .before .args .s)) (c .before .before .before .blank-21 .ensures) (c .before .copy-at .ensures)
+returns c = filled-by 21 (now (c .before .before .before .before .args .s)) (zeros 21) (c .before .copy-at .ensures)
 
 pub filled-21-spec : {M : Type 1} → statement M
 filled-21-spec =
-    tie.close (tie.spec blank-21-requires slice-aggregate-copy-at copy-at-requires returns)
+    tie.close (tie.spec slice-aggregate-copy-at copy-at-requires returns)

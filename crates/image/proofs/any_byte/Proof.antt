@@ -1,5 +1,6 @@
-use mathlib.Core.Path.{sym, _∙_}
+use mathlib.Core.Path.{sym, ap, _∙_}
 use denote.Ref.{now}
+use Rattle.image_reader.specs.declared.Found.{Found}
 use Rattle.image.proofs.Readers.{stopped-there, byte-read, byte-missing}
 use borrow.Author.Needs.{needs}
 use Rattle.image.proofs.any_byte.Statement.{statement}
@@ -14,11 +15,8 @@ enum-known-cursor-2 c = search needs
 read-at-requires : tie.Need-read-at-requires
 read-at-requires c κs = search needs
 
-enum-known-byte : tie.Need-enum-known-byte
-enum-known-byte c = search needs
-
-place-after-requires : tie.Need-place-after-requires
-place-after-requires c κs = search needs
+enum-known-next : tie.Need-enum-known-next
+enum-known-next c = search needs
 
 enum-told : tie.Need-enum-told
 enum-told c = search needs
@@ -27,10 +25,10 @@ returns : tie.Need-returns
 returns c = stopped-there (now (c .before .before .before .before .args .image)) _ _ (c .before .cursor .given .1) _ _
 
 returns-2 : tie.Need-returns-2
-returns-2 c = byte-read (now (c .before .before .before .before .before .before .before .before .before .args .image)) _ (sym (c .before .before .before .before .read-at .ensures) ∙ c .before .before .byte .given .1) (c .place-after .ensures) _ (c .before .before .before .before .before .before .cursor2 .given .1)
+returns-2 c = byte-read (now (c .before .before .before .before .before .before .before .before .args .image)) _ (sym (ap (λ (f : Found). f .next) (c .before .before .before .read-at .ensures)) ∙ c .before .next .given .1) (ap (λ (f : Found). f .place) (c .before .before .before .read-at .ensures)) _ (c .before .before .before .before .before .cursor2 .given .1)
 
 returns-3 : tie.Need-returns-3
-returns-3 c = byte-missing (now (c .before .before .before .before .before .before .before .args .image)) _ (sym (c .before .before .read-at .ensures) ∙ c .enum-told .given .1) _ (c .before .before .before .before .cursor2 .given .1)
+returns-3 c = byte-missing (now (c .before .before .before .before .before .before .before .args .image)) _ (sym (ap (λ (f : Found). f .next) (c .before .before .read-at .ensures)) ∙ c .enum-told .given .1) _ (c .before .before .before .before .cursor2 .given .1)
 
 pub any-byte-spec : {M : Type 1} → statement M
 any-byte-spec =
@@ -39,8 +37,7 @@ any-byte-spec =
     enum-known-cursor
     enum-known-cursor-2
     read-at-requires
-    enum-known-byte
-    place-after-requires
+    enum-known-next
     enum-told
     returns
     returns-2
