@@ -1,4 +1,4 @@
--- What stands at a position of an image, the place after it, and a reader there.
+-- What stands at a place of an image, the place after it, and a reader there. No rule of document 01 stands here.
 use Prim.Native.Nat.{ℕ, _+_}
 use mathlib.Core.Bool.{cond}
 use lib.ListN.{length}
@@ -10,16 +10,19 @@ use Rattle.image_reader.specs.declared.NextByte.the-variants.{Byte, End}
 use Rattle.image_reader.specs.declared.Found.{Found}
 use Rattle.image_reader.specs.declared.Reader.{Reader}
 
+-- The byte at a place, or the end.
 unfoldable pub nextAt : Bytes → ℕ → NextByte
 nextAt image at = cond (ltb at (length image)) (Byte (byteAt image at)) End
 
--- At the end the place stays.
+-- The place after it; at the end the place stays.
 unfoldable pub placeAfter : Bytes → ℕ → ℕ
 placeAfter image at = cond (ltb at (length image)) (at + 1) at
 
+-- Both.
 abbrev pub foundAt : Bytes → ℕ → Found
 foundAt image at = record { next = nextAt image at; place = placeAfter image at }
 
+-- A reader of an image, at a place; and after its next byte.
 abbrev pub readerAt : RefT Bytes → ℕ → Reader
 readerAt image at = record { image = image; at = at }
 

@@ -1,4 +1,4 @@
--- What is known of a command on its way through the steps.
+-- What is known of a command after the length form (step 1), and after the lengths of its instruction (step 6).
 use mathlib.Core.Path.{_≡_}
 use mathlib.Core.Bool.{true}
 use Prim.Native.Nat.{_≤_}
