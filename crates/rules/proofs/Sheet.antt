@@ -37,8 +37,8 @@ use Rattle.rules.specs.CodeCommands.{judged, verify, change, newValue, u
 use Rattle.rules.specs.Judgement.{classes, instructions, badChaining, goodParameters, goodLengths, hasData, dropPending, sessionCommand, ownRules, judgeHeader, judgeForm, judge}
 use Rattle.rules.specs.Delivery.{deliver}
 use Rattle.rules.specs.Edge.{refused, written, shortBuffer, badCertificate, jobWaits, command, delivery, powerReset}
-use Rattle.rules.specs.Counting.{Call, Command, Delivery, PowerReset, Exchange, step, exchangeOf, statusWord, replyStatus, replyKind, isCommand, formIs, okStatus, wrongStatus, verifies, changes, presentsPuk, unblocks, presents, wrongAnswer, restoration, unblocking, rightVerify, handsSignature}
-use Rattle.rules.specs.CodeSheet.{CodeSheet, changed, anyUnblocks, anyUnblocked, byVerifiedPuk, presentedBy, presentedIn, handsPin1Job, storesPin, wasReset, opens, closes, Sheet, dataSent}
+use Rattle.rules.specs.Counting.{Call, Command, Delivery, PowerReset, Exchange, step, exchangeOf, statusWord, replyStatus, replyKind, isCommand, formIs, okStatus, wrongStatus, verifies, changes, presentsPuk, unblocks, presents, answers, wrongAnswer, restoration, unblocking, rightVerify, handsSignature}
+use Rattle.rules.specs.CodeSheet.{CodeSheet, verifiedAfter, valueAfter, changed, anyUnblocks, anyUnblocked, byVerifiedPuk, presentedBy, presentedIn, handsPin1Job, storesPin, wasReset, opens, closes, Sheet, dataSent}
 use Rattle.rules.proofs.StatusWords.{status-read, wrong-status, wrong-not-ok}
 use Rattle.rules.proofs.Parts.{good-code, code-length, code-tries, allowed-most, code-place, code-same, code-other}
 
@@ -58,24 +58,46 @@ record Silent (k : ℕ) (e : Exchange) : Type 0 where
 never : {A : Type 0} {t : Bool} → t ≡ false → t ≡ true → A
 never f e = absurd (false≢true (sym f ∙ e))
 
+-- A call that judges no code and unblocks none: what is left to show of the sheet.
+record Unjudged (k : ℕ) (e : Exchange) : Type 0 where
+  wrongly : wrongAnswer k e ≡ false
+  restoring : restoration k e ≡ false
+  freeing : unblocking k e ≡ false
+  using-puk : answers okStatus byVerifiedPuk e ≡ false
+
+unjudged : (k : ℕ) (c : Card) (x : Call) (o : Outcome × Bytes) → Unjudged k (exchangeOf x o)
+    → codeOf (o .0 .card) k .verified ≡ verifiedAfter k (exchangeOf x o) (codeOf c k .verified)
+    → codeOf (o .0 .card) k .tries ≡ codeOf c k .tries
+    → value (codeOf (o .0 .card) k) ≡ valueAfter k (exchangeOf x o) (value (codeOf c PUK)) (value (codeOf c k))
+    → (handsPin1Job (exchangeOf x o) ≡ true → codeOf c PIN1 .verified ≡ true)
+    → (handsSignature (exchangeOf x o) ≡ true → codeOf c PIN2 .verified ≡ true)
+    → Sheet k c x o
+unjudged k c x o u m t v pin1 pin2 = record {
+  verified = m;
+  tries = simp (u .wrongly, u .restoring, u .freeing) t;
+  stored = v;
+  rightly = never (u .restoring);
+  wrongly = never (u .wrongly);
+  wrong = never (u .wrongly);
+  judged = never (u .wrongly);
+  restored = never (u .restoring);
+  unblocked = never (u .freeing);
+  pukUsed = never (u .using-puk);
+  pin1Used = pin1;
+  signed = pin2;
+}
+
 -- Where the code is the same after it, the sheet holds of code k.
 unmoved : (k : ℕ) (c : Card) (x : Call) (o : Outcome × Bytes) → codeOf (o .0 .card) k ≡ codeOf c k → Silent k (exchangeOf x o)
     → (handsPin1Job (exchangeOf x o) ≡ true → codeOf c PIN1 .verified ≡ true) → Sheet k c x o
 unfolding opens closes
-unmoved k c x o e s pin1 = record {
-  verified = simp (s .rightly, s .wrongly, s .changing, s .freeing, s .closing-puk, s .signing, s .resetting, and-false) (ap (λ (v : Code). v .verified) e);
-  tries = simp (s .wrongly, s .restoring, s .freeing) (ap (λ (v : Code). v .tries) e);
-  stored = simp (s .changing, s .storing-pin) (ap value e);
-  rightly = never (s .restoring);
-  wrongly = never (s .wrongly);
-  wrong = never (s .wrongly);
-  judged = never (s .wrongly);
-  restored = never (s .restoring);
-  unblocked = never (s .freeing);
-  pukUsed = never (s .using-puk);
-  pin1Used = pin1;
-  signed = never (s .signing);
-}
+unmoved k c x o e s pin1 =
+    unjudged k c x o (record { wrongly = s .wrongly; restoring = s .restoring; freeing = s .freeing; using-puk = s .using-puk })
+    (simp (s .rightly, s .wrongly, s .changing, s .freeing, s .closing-puk, s .signing, s .resetting, and-false) (ap (λ (v : Code). v .verified) e))
+    (ap (λ (v : Code). v .tries) e)
+    (simp (s .changing, s .storing-pin) (ap value e))
+    pin1
+    (never (s .signing))
 
 -- A call that wrote an answer.
 module _ (k : ℕ) (c : Card) (x : Call) (w : Bytes) where
@@ -641,20 +663,8 @@ module _ (k : ℕ) (h3 : k < 3) (c : Card) (g : good c ≡ true) (b auth sig w :
       → Sheet k c x (written w c′ (job kind key block))
   unfolding written replyStatus replyKind wasReset opens closes okStatus wrongStatus
   handed c′ kind key block m t v given pin1 =
-      record {
-        verified = simp (and-true, and-false, or-false) m;
-        tries = t;
-        stored = v;
-        rightly = never refl;
-        wrongly = never refl;
-        wrong = never refl;
-        judged = never refl;
-        restored = never refl;
-        unblocked = never refl;
-        pukUsed = never refl;
-        pin1Used = λ e. pin1 (simp and-true at e);
-        signed = λ e. given (simp and-true at e);
-      }
+      unjudged k c x _ (record { wrongly = refl; restoring = refl; freeing = refl; using-puk = refl })
+      (simp (and-true, and-false, or-false) m) t v (λ e. pin1 (simp and-true at e)) (λ e. given (simp and-true at e))
 
   -- 2A 9E 9A SIGN
   sign-sheet : S (sign c (dropPending c .session) h (dataOf b h))
@@ -778,20 +788,8 @@ reset-sheet k h3 c =
     split (λ (o : Outcome). Sheet k c PowerReset (o, [])) (not (good c)) (λ _. edge-refusal k c PowerReset [] BadState)
     (λ g.
     let now = all-shut c (not-false _ g) k h3 in
-    record {
-      verified = simp (and-false) (ap (λ (v : Code). v .verified) now);
-      tries = ap (λ (v : Code). v .tries) now;
-      stored = ap value now;
-      rightly = never refl;
-      wrongly = never refl;
-      wrong = never refl;
-      judged = never refl;
-      restored = never refl;
-      unblocked = never refl;
-      pukUsed = never refl;
-      pin1Used = never refl;
-      signed = never refl;
-    })
+    unjudged k c PowerReset _ (record { wrongly = refl; restoring = refl; freeing = refl; using-puk = refl })
+    (simp and-false (ap (λ (v : Code). v .verified) now)) (ap (λ (v : Code). v .tries) now) (ap value now) (never refl) (never refl))
 
 -- The sheet, for each code, every card and every call.
 pub code-sheet : CodeSheet
