@@ -1,3 +1,1 @@
-pub mod Certificates
 pub mod Outputs
-pub mod Reach

@@ -7,11 +7,11 @@ use native.Mathlib.Omega.{arith}
 use lib.ListN.{length}
 use borrow.Author.Tests.{eq-eqb, ne-eqb, le-leb}
 use Rattle.octets.specs.Octets.{Bytes, byteAt}
-use Rattle.rules.specs.declared.Parsed.the-variants.{Form, Malformed}
-use Rattle.rules.specs.Apdu.{leOf, header, lcByte, parse}
+use Rattle.rules.specs.Numbers.{form, refused}
+use Rattle.rules.specs.Apdu.{leOf, header, lcByte, dataStart, parse}
 
 module _ (b : Bytes) where
-  pub too-short : length b < 4 → Malformed ≡ parse b
+  pub too-short : length b < 4 → refused 0x6700 ≡ parse b
   unfolding parse
   too-short h =
       simp (
@@ -22,21 +22,21 @@ module _ (b : Bytes) where
         and-false,
       )
 
-  pub header-alone : length b ≡ 4 → Form (header b 0 0) ≡ parse b
+  pub header-alone : length b ≡ 4 → form (header b 0 0) dataStart ≡ parse b
   unfolding parse
   header-alone h = simp (eq-eqb (length b) 4 h)
 
-  pub le-alone : length b ≡ 5 → Form (header b 0 (leOf (byteAt b 4))) ≡ parse b
+  pub le-alone : length b ≡ 5 → form (header b 0 (leOf (byteAt b 4))) dataStart ≡ parse b
   unfolding parse
   le-alone h = simp (ne-eqb (length b) 4 (omega arith), eq-eqb (length b) 5 h)
 
   -- with six bytes or more
   module _ (more : 6 ≤ length b) where
-    pub no-data : lcByte b ≡ 0 → Malformed ≡ parse b
+    pub no-data : lcByte b ≡ 0 → refused 0x6700 ≡ parse b
     unfolding parse
     no-data h = simp (ne-eqb (length b) 4 (omega arith), ne-eqb (length b) 5 (omega arith), h)
 
-    pub with-data : 1 ≤ lcByte b → length b ≡ 5 + lcByte b → Form (header b (lcByte b) 0) ≡ parse b
+    pub with-data : 1 ≤ lcByte b → length b ≡ 5 + lcByte b → form (header b (lcByte b) 0) dataStart ≡ parse b
     unfolding parse
     with-data some h =
         simp (
@@ -46,7 +46,8 @@ module _ (b : Bytes) where
           eq-eqb (length b) (5 + lcByte b) h,
         )
 
-    pub with-data-and-le : 1 ≤ lcByte b → length b ≡ 6 + lcByte b → Form (header b (lcByte b) (leOf (byteAt b (length b - 1)))) ≡ parse b
+    pub with-data-and-le : 1 ≤ lcByte b → length b ≡ 6 + lcByte b
+        → form (header b (lcByte b) (leOf (byteAt b (length b - 1)))) dataStart ≡ parse b
     unfolding parse
     with-data-and-le some h =
         simp (
@@ -57,7 +58,7 @@ module _ (b : Bytes) where
           eq-eqb (length b) (6 + lcByte b) h,
         )
 
-    pub other-length : length b ≢ 5 + lcByte b → length b ≢ 6 + lcByte b → Malformed ≡ parse b
+    pub other-length : length b ≢ 5 + lcByte b → length b ≢ 6 + lcByte b → refused 0x6700 ≡ parse b
     unfolding parse
     other-length n m =
         simp (

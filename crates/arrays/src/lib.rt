@@ -36,10 +36,10 @@ pub fn filled_256(s: &[u8]) -> [u8; 256]
     bytes_256
 }
 
-pub fn filled_257(s: &[u8]) -> [u8; 257]
-    ensures { λ r. ⌜ r ≡ filled 257 (take 257 (now (s .entry))) ⌝ }
+pub fn filled_258(s: &[u8]) -> [u8; 258]
+    ensures { λ r. ⌜ r ≡ filled 258 (take 258 (now (s .entry))) ⌝ }
 {
-    let mut bytes_257 = [0u8; 257];
-    writing::copy_at(&mut bytes_257, 0, s);
-    bytes_257
+    let mut bytes_258 = [0u8; 258];
+    writing::copy_at(&mut bytes_258, 0, s);
+    bytes_258
 }

@@ -5,9 +5,11 @@ use rules::Outcome;
 use rules::Parsed;
 use rules::Refusal;
 use rules::Reply;
+use steps::StepOutput;
 ghost use mathlib.Core.Path.{_≡_};
+ghost use Rattle.rules.specs.Numbers.{returned};
 ghost use Rattle.rules.specs.Edge.{badCertificate, jobWaits, command, delivery, powerReset};
-ghost use Rattle.card.specs.Refusals.{refusedOutcome};
+ghost use Rattle.answers.specs.Outputs.{outputOf, writtenOr};
 
 // Edge refusal 3: a certificate empty or over 1,536 bytes.
 fn bad_certificate(certificate: &[u8]) -> bool
@@ -19,7 +21,7 @@ fn bad_certificate(certificate: &[u8]) -> bool
 
 // An edge refusal: the card as it was.
 fn refused(card: Card, refusal: Refusal) -> Outcome
-    ensures { λ r. ⌜ r ≡ refusedOutcome card refusal ⌝ }
+    ensures { λ r. ⌜ r ≡ record { card = card; reply = Reply.Refused refusal } ⌝ }
 {
     Outcome {
         card: card,
@@ -36,6 +38,22 @@ fn job_waits(card: Card) -> bool
     job.kind != 0
 }
 
+// The card after a step, and the step's answer in the buffer.
+fn answered(card: Card, step: StepOutput, buffer: &mut [u8]) -> Outcome
+    ensures { λ r. ⌜ record { returned = returned (r .reply); card = r .card; buffer = now (buffer .exit) } ≡ writtenOr (now (buffer .entry)) (record { codes = step .codes; profile = card .profile; session = step .session }) (outputOf (step .output)) ⌝ }
+{
+    let codes = step.codes;
+    let profile = card.profile;
+    let session = step.session;
+    let output = step.output;
+    let next = Card {
+        codes: codes,
+        profile: profile,
+        session: session,
+    };
+    answers::write(next, output, buffer)
+}
+
 // A command: its bytes, the authentication and the signature certificate, and the buffer for the answer.
 pub fn command<'a>(
     card: Card,
@@ -44,7 +62,7 @@ pub fn command<'a>(
     signature: &'a [u8],
     buffer: &mut [u8],
 ) -> Outcome
-    ensures { λ r. ⌜ (r, now (buffer .exit)) ≡ command card (now (apdu .entry)) (now (authentication .entry)) (now (signature .entry)) (now (buffer .entry)) ⌝ }
+    ensures { λ r. ⌜ record { returned = returned (r .reply); card = r .card; buffer = now (buffer .exit) } ≡ command card (now (apdu .entry)) (now (authentication .entry)) (now (signature .entry)) (now (buffer .entry)) ⌝ }
 {
     if !good_state::good(card) {
         return refused(card, Refusal::BadState);
@@ -58,23 +76,18 @@ pub fn command<'a>(
     if job_waits(card) {
         return refused(card, Refusal::JobWaiting);
     }
-    let Parsed::Form(h) = apdu::parse(apdu) else {
-        let refusal = judgement::refuse(card, 0x6700);
-        let bare = refusal.card;
-        let word = refusal.output;
-        return answers::write(bare, word, buffer);
+    let Parsed::Form(h, start) = apdu::parse(apdu) else {
+        return answered(card, judgement::refuse(card, 0x6700), buffer);
     };
     let lc = h.lc;
-    let d = octets::part(apdu, 5, lc);
+    let d = octets::part(apdu, start, lc);
     let step = judgement::judge(card, h, d, authentication, signature);
-    let next = step.card;
-    let output = step.output;
-    answers::write(next, output, buffer)
+    answered(card, step, buffer)
 }
 
 // A delivery: the key host's result, and the buffer for the answer.
 pub fn delivery(card: Card, result: &[u8], buffer: &mut [u8]) -> Outcome
-    ensures { λ r. ⌜ (r, now (buffer .exit)) ≡ delivery card (now (result .entry)) (now (buffer .entry)) ⌝ }
+    ensures { λ r. ⌜ record { returned = returned (r .reply); card = r .card; buffer = now (buffer .exit) } ≡ delivery card (now (result .entry)) (now (buffer .entry)) ⌝ }
 {
     if !good_state::good(card) {
         return refused(card, Refusal::BadState);
@@ -85,27 +98,31 @@ pub fn delivery(card: Card, result: &[u8], buffer: &mut [u8]) -> Outcome
     if !job_waits(card) {
         return refused(card, Refusal::NoJobWaiting);
     }
-    let s = card.session;
-    let step = key_commands::deliver(s, result);
-    let session = step.session;
-    let output = step.output;
-    answers::write(state::with_session(card, session), output, buffer)
+    let codes = card.codes;
+    let step = steps::in_session(codes, deliveries::deliver(card.session, result));
+    answered(card, step, buffer)
 }
 
 // A power reset: marks off and a new session.
 pub fn power_reset(card: Card) -> Outcome
-    ensures { λ r. ⌜ r ≡ powerReset card ⌝ }
+    ensures { λ r. ⌜ (returned (r .reply), r .card) ≡ powerReset card ⌝ }
 {
     if !good_state::good(card) {
         return refused(card, Refusal::BadState);
     }
-    let closed = card_codes::closed(
-        card_codes::closed(card_codes::closed(card, Code::PUK), Code::PIN1),
-        Code::PIN2,
-    );
+    let kept = card.codes;
+    let puk_closed = card_codes::closed(kept, Code::PUK);
+    let pin1_closed = card_codes::closed(puk_closed, Code::PIN1);
+    let codes = card_codes::closed(pin1_closed, Code::PIN2);
+    let profile = card.profile;
     let session = pending::new_session();
+    let next = Card {
+        codes: codes,
+        profile: profile,
+        session: session,
+    };
     Outcome {
-        card: state::with_session(closed, session),
+        card: next,
         reply: Reply::WasReset,
     }
 }

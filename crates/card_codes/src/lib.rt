@@ -1,5 +1,4 @@
-// The codes of a card, by their numbers, read and replaced.
-use rules::Card;
+// The three codes of a card, by their numbers, read and replaced.
 use rules::Code;
 ghost use mathlib.Core.Path.{_≡_};
 ghost use Rattle.rules.specs.Codes.{zeroCode, codeOf, withCode, closed};
@@ -17,34 +16,32 @@ pub fn zero_code() -> Code
 }
 
 // The code of a number; all zeros where there is none.
-pub fn code_of(card: Card, number: usize) -> Code
-    ensures { λ r. ⌜ r ≡ codeOf card number ⌝ }
+pub fn code_of(codes: [Code; 3], number: usize) -> Code
+    ensures { λ r. ⌜ r ≡ codeOf codes number ⌝ }
 {
     if number < 3 {
-        return card.codes[number];
+        return codes[number];
     }
     zero_code()
 }
 
-// The card with the code of a number replaced; the card itself where there is none.
-pub fn with_code(card: Card, number: usize, code: Code) -> Card
-    ensures { λ r. ⌜ r ≡ withCode card number code ⌝ }
+// The codes with the code of a number replaced; as they are where there is none.
+pub fn with_code(codes: [Code; 3], number: usize, code: Code) -> [Code; 3]
+    ensures { λ r. ⌜ r ≡ withCode codes number code ⌝ }
 {
     if 3 <= number {
-        return card;
+        return codes;
     }
-    let mut codes = card.codes;
-    codes[number] = code;
-    let mut next = card;
-    next.codes = codes;
+    let mut next = codes;
+    next[number] = code;
     next
 }
 
-// The card with the verified mark of a code off.
-pub fn closed(card: Card, number: usize) -> Card
-    ensures { λ r. ⌜ r ≡ closed card number ⌝ }
+// The codes with the verified mark of one of them off.
+pub fn closed(codes: [Code; 3], number: usize) -> [Code; 3]
+    ensures { λ r. ⌜ r ≡ closed codes number ⌝ }
 {
-    let mut code = code_of(card, number);
+    let mut code = code_of(codes, number);
     code.verified = false;
-    with_code(card, number, code)
+    with_code(codes, number, code)
 }

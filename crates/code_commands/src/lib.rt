@@ -1,194 +1,186 @@
-// VERIFY, CHANGE REFERENCE DATA and RESET RETRY COUNTER, as functions of values: the next card and a status word.
-use codes::Verdict;
-use rules::Card;
+// VERIFY, CHANGE REFERENCE DATA and RESET RETRY COUNTER, as functions of the codes: the codes afterwards and a status word.
 use rules::Code;
+use rules::CodeStep;
 use rules::Header;
+use rules::Verdict;
 ghost use mathlib.Core.Path.{_≡_};
-ghost use Prim.Native.Nat.{_+_};
-ghost use mathlib.Core.Bool.{false};
+ghost use Prim.Native.Nat.{_+_, _-_};
 ghost use lib.ListN.{take, drop};
 ghost use Rattle.rules.specs.Codes.{marked};
-ghost use Rattle.rules.specs.Answers.{status};
-ghost use Rattle.rules.specs.CodeCommands.{verify, change, unblockByVerifiedPuk, unblockByPresentedPuk, resetRetry};
-ghost use Rattle.code_commands.specs.Judging.{stepOf, judgementOf};
+ghost use Rattle.rules.specs.Answers.{codeStatus};
+ghost use Rattle.rules.specs.CodeCommands.{verdict, judged, verify, replaced, change};
+ghost use Rattle.rules.specs.CodeCommands.{unblockByVerifiedPuk, unblockByPresentedPuk, resetRetry};
 
-// The next card, and a status word alone.
-pub struct Stepped {
-    pub card: Card,
-    pub sw: u16,
+// A status word alone.
+fn code_status(codes: [Code; 3], sw: u16) -> CodeStep
+    ensures { λ r. ⌜ r ≡ codeStatus codes sw ⌝ }
+{
+    CodeStep {
+        codes: codes,
+        sw: sw,
+    }
 }
 
-// How a presented value was judged: the card and the status word that follow, and whether it was right.
-pub struct Judgement {
-    pub card: Card,
-    pub sw: u16,
-    pub right: bool,
+// The same value, with other tries left and another verified mark.
+fn marked(code: Code, tries: u8, verified: bool) -> Code
+    ensures { λ r. ⌜ r ≡ marked code tries verified ⌝ }
+{
+    let mut next = code;
+    next.tries = tries;
+    next.verified = verified;
+    next
 }
 
-// 63Cx with the tries left.
+// One try less, and 63Cx with the tries left.
+fn one_less(tries: u8) -> u8
+    ensures { λ r. ⌜ r ≡ tries - 1 ⌝ }
+{
+    if tries == 0 {
+        return 0;
+    }
+    tries - 1
+}
+
 fn wrong_status(left: u8) -> u16
     ensures { λ r. ⌜ r ≡ 0x63C0 + left ⌝ }
 {
     0x63C0 + left as u16
 }
 
-// A value presented for the code of a number.
-fn judge(card: Card, number: usize, presented: &[u8]) -> Judgement
-    ensures { λ r. ⌜ r ≡ judgementOf card number (now (presented .entry)) ⌝ }
+// A presented value is judged.
+fn verdict(code: Code, presented: &[u8]) -> Verdict
+    ensures { λ r. ⌜ r ≡ verdict code (now (presented .entry)) ⌝ }
 {
-    let judged = codes::present(card_codes::code_of(card, number), presented);
-    let code = judged.code;
-    let verdict = judged.verdict;
-    match verdict {
-        Verdict::NoTries => Judgement {
-            card: card,
-            sw: 0x6983,
-            right: false,
-        },
-        Verdict::Right => Judgement {
-            card: card_codes::with_code(card, number, code),
-            sw: 0x9000,
-            right: true,
-        },
-        Verdict::Wrong(left) => Judgement {
-            card: card_codes::with_code(card, number, code),
-            sw: wrong_status(left),
-            right: false,
-        },
+    if code.tries == 0 {
+        return Verdict::NoTries;
     }
+    let digits = code.digits;
+    let len = numbers::wide(code.len);
+    if octets::equal(presented, octets::part(&digits, 0, len)) {
+        return Verdict::Right;
+    }
+    Verdict::Wrong
 }
 
-// The card and the status word that follow a judgement.
-fn follow(judged: Judgement) -> Stepped
-    ensures { λ r. ⌜ stepOf r ≡ status (judged .card) (judged .sw) ⌝ }
+// What follows for the code of a number.
+fn judged(codes: [Code; 3], number: usize, found: Verdict) -> CodeStep
+    ensures { λ r. ⌜ r ≡ judged codes number found ⌝ }
 {
-    let card = judged.card;
-    Stepped {
-        card: card,
-        sw: judged.sw,
+    let code = card_codes::code_of(codes, number);
+    match found {
+        Verdict::Right => {
+            let opened = marked(code, Code::TRIES, true);
+            code_status(card_codes::with_code(codes, number, opened), 0x9000)
+        }
+        Verdict::Wrong => {
+            let left = one_less(code.tries);
+            let shut = marked(code, left, false);
+            code_status(
+                card_codes::with_code(codes, number, shut),
+                wrong_status(left),
+            )
+        }
+        Verdict::NoTries => code_status(codes, 0x6983),
     }
 }
 
 // 20 VERIFY.
-pub fn verify(card: Card, h: Header, presented: &[u8]) -> Stepped
-    ensures { λ r. ⌜ stepOf r ≡ verify card h (now (presented .entry)) ⌝ }
+pub fn verify(codes: [Code; 3], h: Header, presented: &[u8]) -> CodeStep
+    ensures { λ r. ⌜ r ≡ verify codes h (now (presented .entry)) ⌝ }
 {
     let number = numbers::wide(h.p2);
-    follow(judge(card, number, presented))
-}
-
-// A new value that is not allowed: 6A80, the card as it was.
-fn disallowed(card: Card) -> Stepped
-    ensures { λ r. ⌜ stepOf r ≡ status card 0x6A80 ⌝ }
-{
-    Stepped {
-        card: card,
-        sw: 0x6A80,
-    }
+    let code = card_codes::code_of(codes, number);
+    judged(codes, number, verdict(code, presented))
 }
 
 // The first of two values, as long as the one that a code stores; the second.
 fn old_value(code: Code, values: &[u8]) -> &[u8]
     ensures { λ r. ⌜ now r ≡ take (code .len) (now (values .entry)) ⌝ }
 {
-    let len = code.len;
+    let len = numbers::wide(code.len);
     octets::part(values, 0, len)
 }
 
 fn new_value(code: Code, values: &[u8]) -> &[u8]
     ensures { λ r. ⌜ now r ≡ drop (code .len) (now (values .entry)) ⌝ }
 {
-    let len = code.len;
+    let len = numbers::wide(code.len);
     octets::part(values, len, values.len())
 }
 
-// 24 CHANGE: the old value, as long as the stored one, then the new value.
-pub fn change(card: Card, h: Header, values: &[u8]) -> Stepped
-    ensures { λ r. ⌜ stepOf r ≡ change card h (now (values .entry)) ⌝ }
+// The value of code k was judged, and a new value for code j stands behind it; `stored` has it.
+fn replaced(
+    codes: [Code; 3],
+    k: usize,
+    j: usize,
+    new: &[u8],
+    stored: [Code; 3],
+    found: Verdict,
+) -> CodeStep
+    ensures { λ r. ⌜ r ≡ replaced codes k j (now (new .entry)) stored found ⌝ }
 {
-    let number = numbers::wide(h.p2);
-    let code = card_codes::code_of(card, number);
-    let judged = judge(card, number, old_value(code, values));
-    let after = judged.card;
-    if !judged.right {
-        return Stepped {
-            card: after,
-            sw: judged.sw,
-        };
-    }
-    let new = new_value(code, values);
-    if !codes::allowed(number, new) {
-        return disallowed(card);
-    }
-    Stepped {
-        card: card_codes::with_code(card, number, codes::storing(new, Code::TRIES, false)),
-        sw: 0x9000,
+    match found {
+        Verdict::Right => {
+            if !codes::allowed(j, new) {
+                return code_status(codes, 0x6A80);
+            }
+            code_status(stored, 0x9000)
+        }
+        Verdict::Wrong => judged(codes, k, Verdict::Wrong),
+        Verdict::NoTries => judged(codes, k, Verdict::NoTries),
     }
 }
 
-// A code with three tries and its mark off.
-fn renewed(code: Code) -> Code
-    ensures { λ r. ⌜ r ≡ marked code 3 false ⌝ }
+// 24 CHANGE: the old value, as long as the stored one, then the new value.
+pub fn change(codes: [Code; 3], h: Header, values: &[u8]) -> CodeStep
+    ensures { λ r. ⌜ r ≡ change codes h (now (values .entry)) ⌝ }
 {
-    let mut next = code;
-    next.tries = Code::TRIES;
-    next.verified = false;
-    next
+    let number = numbers::wide(h.p2);
+    let code = card_codes::code_of(codes, number);
+    let found = verdict(code, old_value(code, values));
+    let new = new_value(code, values);
+    let next = codes::storing(new, Code::TRIES, false);
+    let stored = card_codes::with_code(codes, number, next);
+    replaced(codes, number, number, new, stored, found)
 }
 
 // 2C with P1 03: the PUK was verified before.
-fn unblock_by_verified_puk(card: Card, pin: usize) -> Stepped
-    ensures { λ r. ⌜ stepOf r ≡ unblockByVerifiedPuk card pin ⌝ }
+fn unblock_by_verified_puk(codes: [Code; 3], pin: usize) -> CodeStep
+    ensures { λ r. ⌜ r ≡ unblockByVerifiedPuk codes pin ⌝ }
 {
-    let puk = card_codes::code_of(card, Code::PUK);
+    let puk = card_codes::code_of(codes, Code::PUK);
     if !puk.verified {
-        return Stepped {
-            card: card,
-            sw: 0x6982,
-        };
+        return code_status(codes, 0x6982);
     }
-    let code = renewed(card_codes::code_of(card, pin));
-    Stepped {
-        card: card_codes::closed(card_codes::with_code(card, pin, code), Code::PUK),
-        sw: 0x9000,
-    }
+    let renewed = marked(card_codes::code_of(codes, pin), Code::TRIES, false);
+    let stored = card_codes::with_code(codes, pin, renewed);
+    code_status(card_codes::closed(stored, Code::PUK), 0x9000)
 }
 
 // 2C with P1 00: the PUK, then the new PIN.
-fn unblock_by_presented_puk(card: Card, pin: usize, values: &[u8]) -> Stepped
-    ensures { λ r. ⌜ stepOf r ≡ unblockByPresentedPuk card pin (now (values .entry)) ⌝ }
+fn unblock_by_presented_puk(codes: [Code; 3], pin: usize, values: &[u8]) -> CodeStep
+    ensures { λ r. ⌜ r ≡ unblockByPresentedPuk codes pin (now (values .entry)) ⌝ }
 {
-    let puk = card_codes::code_of(card, Code::PUK);
-    let judged = judge(card, Code::PUK, old_value(puk, values));
-    if !judged.right {
-        return follow(judged);
-    }
+    let puk = card_codes::code_of(codes, Code::PUK);
+    let found = verdict(puk, old_value(puk, values));
     let new = new_value(puk, values);
-    let unchanged = card;
-    if !codes::allowed(pin, new) {
-        return disallowed(unchanged);
-    }
-    let stored = card_codes::with_code(card, pin, codes::storing(new, Code::TRIES, false));
-    Stepped {
-        card: card_codes::with_code(stored, Code::PUK, renewed(puk)),
-        sw: 0x9000,
-    }
+    let new_pin = codes::storing(new, Code::TRIES, false);
+    let with_pin = card_codes::with_code(codes, pin, new_pin);
+    let stored = card_codes::with_code(with_pin, Code::PUK, marked(puk, Code::TRIES, false));
+    replaced(codes, Code::PUK, pin, new, stored, found)
 }
 
 // 2C RESET RETRY.
-pub fn reset_retry(card: Card, h: Header, values: &[u8]) -> Stepped
-    ensures { λ r. ⌜ stepOf r ≡ resetRetry card h (now (values .entry)) ⌝ }
+pub fn reset_retry(codes: [Code; 3], h: Header, values: &[u8]) -> CodeStep
+    ensures { λ r. ⌜ r ≡ resetRetry codes h (now (values .entry)) ⌝ }
 {
     let pin = numbers::wide(h.p2);
-    let code = card_codes::code_of(card, pin);
+    let code = card_codes::code_of(codes, pin);
     if code.tries != 0 {
-        return Stepped {
-            card: card,
-            sw: 0x6A86,
-        };
+        return code_status(codes, 0x6A86);
     }
     if h.p1 == 0x03 {
-        return unblock_by_verified_puk(card, pin);
+        return unblock_by_verified_puk(codes, pin);
     }
-    unblock_by_presented_puk(card, pin, values)
+    unblock_by_presented_puk(codes, pin, values)
 }

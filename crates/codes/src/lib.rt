@@ -1,22 +1,9 @@
-// The codes: what they may be, what they are after a value is presented, and whether one is good.
+// One code: what values it may have, how it stores one, and whether it is good.
 use rules::Code;
 ghost use mathlib.Core.Path.{_≡_};
 ghost use lib.ListN.{take};
 ghost use Rattle.rules.specs.Codes.{allowed, storing};
-ghost use Rattle.rules.specs.State.{goodRoom, goodCode};
-ghost use Rattle.codes.specs.Presenting.{presentOf};
-
-// How a presented value was judged; Wrong tells the tries left.
-pub enum Verdict {
-    NoTries,
-    Wrong(u8),
-    Right,
-}
-
-pub struct Presented {
-    pub code: Code,
-    pub verdict: Verdict,
-}
+ghost use Rattle.rules.specs.State.{goodCode};
 
 // Whether a value is of allowed length for the code of a number, and digits.
 pub fn allowed(number: usize, value: &[u8]) -> bool
@@ -34,49 +21,10 @@ pub fn storing(value: &[u8], tries: u8, verified: bool) -> Code
     let kept = octets::part(value, 0, Code::MOST);
     Code {
         digits: arrays::filled_12(kept),
-        len: kept.len(),
+        len: kept.len() as u8,
         tries: tries,
         verified: verified,
     }
-}
-
-// A value is presented for a code.
-pub fn present(code: Code, value: &[u8]) -> Presented
-    ensures { λ r. ⌜ r ≡ presentOf code (now (value .entry)) ⌝ }
-{
-    let tries = code.tries;
-    if tries == 0 {
-        return Presented {
-            code: code,
-            verdict: Verdict::NoTries,
-        };
-    }
-    let len = code.len;
-    let digits = code.digits;
-    let mut next = code;
-    if octets::equal(value, octets::part(&digits, 0, len)) {
-        next.tries = Code::TRIES;
-        next.verified = true;
-        return Presented {
-            code: next,
-            verdict: Verdict::Right,
-        };
-    }
-    next.tries = tries - 1;
-    next.verified = false;
-    Presented {
-        code: next,
-        verdict: Verdict::Wrong(tries - 1),
-    }
-}
-
-// Whether an array has the size stated, `len` is at most that size, and zeros stand after the first `len` places.
-pub fn good_room(size: usize, bytes: &[u8], len: usize) -> bool
-    ensures { λ r. ⌜ r ≡ goodRoom size (now (bytes .entry)) len ⌝ }
-{
-    let n = bytes.len();
-    let unused = octets::all_zero(octets::part(bytes, len, n));
-    (n == size) & ((len <= size) & unused)
 }
 
 // Whether the code of a number obeys its rules.
@@ -84,9 +32,9 @@ pub fn good_code(number: usize, code: Code) -> bool
     ensures { λ r. ⌜ r ≡ goodCode number code ⌝ }
 {
     let digits = code.digits;
-    let len = code.len;
+    let len = numbers::wide(code.len);
     let tries = code.tries;
-    let room = good_room(Code::MOST, &digits, len);
+    let room = octets::good_room(Code::MOST, &digits, len);
     let decimal = octets::all_digits(octets::part(&digits, 0, len));
     let least = Code::least(number);
     room

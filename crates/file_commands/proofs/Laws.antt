@@ -1,17 +1,19 @@
 -- SELECT, READ RECORD, READ BINARY and GET RESPONSE: a law for each of their answers.
-use mathlib.Core.Path.{_≡_, refl}
+use mathlib.Core.Path.{_≡_, refl, sym, ap, _∙_}
 use mathlib.Core.Logic.{_≢_}
-use mathlib.Core.Bool.{Bool, true, false, not, cond, _&&_}
+use mathlib.Core.Bool.{Bool, true, false, not, cond, _&&_, _||_, false≢true}
+use mathlib.Core.List.{List}
 use Prim.Native.Nat.{ℕ, _-_, _≤_, _<_}
 use lib.Dec.{eqb, leb}
 use lib.Seq.{take-take}
 use native.Mathlib.Omega.{arith}
 use lib.ListN.{length, take, drop, length-drop}
-use borrow.Author.Tests.{eq-eqb, ne-eqb, lt-ltb, le-ltb, le-leb, lt-leb, leb-true, leb-false}
-use Rattle.octets.proofs.Tests.{split}
+use borrow.Author.Tests.{eq-eqb, ne-eqb, lt-ltb, le-ltb, le-leb, lt-leb, leb-true, leb-false, eqb-true}
+use Rattle.octets.proofs.Tests.{split, or-cases}
 use Rattle.octets.proofs.Cutting.{uncut-first}
 use Rattle.octets.specs.Octets.{Bytes, byteAt, word, member}
-use Rattle.rules.specs.declared.Card.{Card}
+use Rattle.rules.specs.declared.Code.{Code}
+use Rattle.rules.specs.declared.Profile.{Profile}
 use Rattle.rules.specs.declared.Session.{Session}
 use Rattle.rules.specs.declared.Header.{Header}
 use Rattle.rules.specs.Codes.{PUK, codeOf}
@@ -58,59 +60,56 @@ pub pin-uncut : (t : ℕ) → take 256 (pinRecord t) ≡ pinRecord t
 unfolding pinRecord
 pin-uncut t = refl
 
-module _ (c : Card) (n : ℕ) where
-  pub puk-shown : n ≡ 3 → pukRecord (codeOf c PUK .tries) ≡ counterRecord c n
+-- Both of two tests that are not passed.
+neither : (s t : Bool) → (s || t) ≡ false → (s ≡ false) × (t ≡ false)
+neither true t e = absurd (false≢true (sym e))
+neither false t e = (refl, e)
+
+module _ (codes : List Code) (n : ℕ) where
+  pub pin-shown : (eqb n 1 || eqb n 2) ≡ true → pinRecord (codeOf codes n .tries) ≡ counterRecord codes n
   unfolding counterRecord
-  puk-shown e = simp (eq-eqb n 3 e)
+  pin-shown e = or-cases _ (eqb n 1) (eqb n 2) e (λ a. rw (eqb-true n 1 a)) (λ a. rw (eqb-true n 2 a))
 
-  pub pin-shown : n ≢ 3 → pinRecord (codeOf c n .tries) ≡ counterRecord c n
+  pub puk-shown : (eqb n 1 || eqb n 2) ≡ false → pukRecord (codeOf codes PUK .tries) ≡ counterRecord codes n
   unfolding counterRecord
-  pin-shown e = simp (ne-eqb n 3 e)
+  puk-shown e = simp (neither (eqb n 1) (eqb n 2) e .0, neither (eqb n 1) (eqb n 2) e .1)
 
--- The records of each file, and how many there are.
-module _ (file : ℕ) where
-  pub counters-count : file ≡ 0x0016 → 3 ≡ recordCount file
-  unfolding recordCount
-  counters-count e = simp (eq-eqb file 0x0016 e)
-
-  pub counters-of : file ≡ 0x0016 → (c : Card) (n : ℕ) → counterRecord c n ≡ recordOf c file n
+-- The records of each file, and how many personal ones there are.
+module _ (file : ℕ) (codes : List Code) (profile : Profile) (n : ℕ) where
+  pub counters-of : file ≡ 0x0016 → counterRecord codes n ≡ recordOf codes profile file n
   unfolding recordOf
-  counters-of e c n = simp (eq-eqb file 0x0016 e)
+  counters-of e = simp (eq-eqb file 0x0016 e)
 
   module _ (other : file ≢ 0x0016) where
-    pub references-count : file ≡ 0x0033 → 1 ≡ recordCount file
-    unfolding recordCount
-    references-count e = simp (ne-eqb file 0x0016 other, eq-eqb file 0x0033 e)
-
-    pub references-of : file ≡ 0x0033 → (c : Card) (n : ℕ) → c .references ≡ recordOf c file n
+    pub references-of : file ≡ 0x0033 → profile .references ≡ recordOf codes profile file n
     unfolding recordOf
-    references-of e c n = simp (ne-eqb file 0x0016 other, eq-eqb file 0x0033 e)
+    references-of e = simp (ne-eqb file 0x0016 other, eq-eqb file 0x0033 e)
 
-    pub personal-count : file ≢ 0x0033 → 16 ≡ recordCount file
-    unfolding recordCount
-    personal-count e = simp (ne-eqb file 0x0016 other, ne-eqb file 0x0033 e)
-
-    pub personal-of : file ≢ 0x0033 → (c : Card) (n : ℕ) → personalRecord c n ≡ recordOf c file n
+    pub personal-of : file ≢ 0x0033 → personalRecord (profile .personal) n ≡ recordOf codes profile file n
     unfolding recordOf
-    personal-of e c n = simp (ne-eqb file 0x0016 other, ne-eqb file 0x0033 e)
+    personal-of e = simp (ne-eqb file 0x0016 other, ne-eqb file 0x0033 e)
+
+pub personal-count : (file : ℕ) → file ≢ 0x0016 → file ≢ 0x0033 → 16 ≡ recordCount file
+unfolding recordCount
+personal-count file other e = simp (ne-eqb file 0x0016 other, ne-eqb file 0x0033 e)
 
 -- READ RECORD.
-module _ (c : Card) (s : Session) (h : Header) where
-  pub no-record-file : current s ≡ noFile → sessionStatus s 0x6986 ≡ readRecord c s h
+module _ (codes : List Code) (profile : Profile) (s : Session) (h : Header) where
+  pub no-record-file : current s ≡ noFile → sessionStatus s 0x6986 ≡ readRecord codes profile s h
   unfolding readRecord
   no-record-file e = simp (eq-eqb (current s) noFile e)
 
   module _ (some : current s ≢ noFile) where
-    pub not-by-record : certificateFile (current s) ≡ true → sessionStatus s 0x6981 ≡ readRecord c s h
+    pub not-by-record : certificateFile (current s) ≡ true → sessionStatus s 0x6981 ≡ readRecord codes profile s h
     unfolding readRecord
     not-by-record e = simp (ne-eqb (current s) noFile some, e)
 
     module _ (by-record : certificateFile (current s) ≡ false) where
-      pub past-last-record : recordCount (current s) < h .p1 → sessionStatus s 0x6A83 ≡ readRecord c s h
+      pub past-last-record : recordCount (current s) < h .p1 → sessionStatus s 0x6A83 ≡ readRecord codes profile s h
       unfolding readRecord
       past-last-record e = simp (ne-eqb (current s) noFile some, by-record, lt-ltb (recordCount (current s)) (h .p1) e)
 
-      pub record-given : h .p1 ≤ recordCount (current s) → give s (h .le) (recordOf c (current s) (h .p1)) ≡ readRecord c s h
+      pub record-given : h .p1 ≤ recordCount (current s) → give s (h .le) (recordOf codes profile (current s) (h .p1)) ≡ readRecord codes profile s h
       unfolding readRecord
       record-given e = simp (ne-eqb (current s) noFile some, by-record, le-ltb (recordCount (current s)) (h .p1) e)
 
@@ -143,6 +142,10 @@ module _ (s : Session) (h : Header) (authentication signature : Bytes) where
           → record { session = s; answer = response (take (h .le) (drop (word (h .p1) (h .p2)) shown)) 0x9000 } ≡ readBinary s h authentication signature
       unfolding readBinary
       part-read e = simp (ne-eqb (current s) noFile some, as-bytes, lt-leb (length shown) (word (h .p1) (h .p2)) e)
+
+-- What is held, read by its length.
+pub held-shown : (s : Session) {n : ℕ} {d : Bytes} → n ≡ s .held .len → d ≡ take n (s .held .bytes) → d ≡ heldBytes s
+held-shown s e f = f ∙ ap (λ (k : ℕ). take k (s .held .bytes)) e
 
 -- GET RESPONSE from what is held.
 module _ (s : Session) (h : Header) (d : Bytes) (held : d ≡ heldBytes s) where

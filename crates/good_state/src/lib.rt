@@ -1,8 +1,11 @@
 // Whether a card state is good, for every state value whatever.
 use rules::Card;
+use rules::Chain;
 use rules::Code;
 use rules::Environment;
+use rules::Held;
 use rules::Job;
+use rules::Profile;
 use rules::Record;
 use rules::Selection;
 use rules::Session;
@@ -11,9 +14,18 @@ ghost use lib.ListN.{length};
 ghost use lib.Dec.{eqb};
 ghost use mathlib.Core.Bool.{_||_};
 ghost use Rattle.rules.specs.Keys.{usable};
-ghost use Rattle.octets.specs.Octets.{member};
-ghost use Rattle.rules.specs.Files.{filesIn};
-ghost use Rattle.rules.specs.State.{goodReferences, goodRecord, goodRecords, goodSelection, goodEnvironment, goodJob, goodSession, good};
+ghost use Rattle.rules.specs.State.{goodCodes, goodReferences, goodRecord, goodRecords, goodProfile, good};
+ghost use Rattle.rules.specs.State.{goodSelection, goodEnvironment, goodHeld, goodChain, goodJob, goodSession};
+
+// The three codes.
+fn good_codes(codes: [Code; 3]) -> bool
+    ensures { λ r. ⌜ r ≡ goodCodes codes ⌝ }
+{
+    let puk = codes::good_code(Code::PUK, card_codes::code_of(codes, Code::PUK));
+    let pin1 = codes::good_code(Code::PIN1, card_codes::code_of(codes, Code::PIN1));
+    let pin2 = codes::good_code(Code::PIN2, card_codes::code_of(codes, Code::PIN2));
+    puk & (pin1 & pin2)
+}
 
 // The record of 0033h.
 fn good_references(keys: [bool; 4], references: [u8; 21]) -> bool
@@ -43,8 +55,8 @@ fn good_record(r: Record) -> bool
     ensures { λ ok. ⌜ ok ≡ goodRecord r ⌝ }
 {
     let bytes = r.bytes;
-    let len = r.len;
-    codes::good_room(64, &bytes, len)
+    let len = numbers::wide(r.len);
+    octets::good_room(64, &bytes, len)
 }
 
 // The personal records.
@@ -61,14 +73,14 @@ fn good_records(personal: [Record; 16]) -> bool
     all
 }
 
-// Whether a file is in a directory.
-pub fn file_in(directory: u16, file: u16) -> bool
-    ensures { λ r. ⌜ r ≡ member file (filesIn directory) ⌝ }
+fn good_profile(p: Profile) -> bool
+    ensures { λ r. ⌜ r ≡ goodProfile p ⌝ }
 {
-    if directory == 0x3F00 {
-        return file == 0x0016;
-    }
-    (file == 0x5044) | ((file == 0x0033) | ((file == 0xAACE) | (file == 0xDDCE)))
+    let keys = p.keys;
+    let references = p.references;
+    let personal = p.personal;
+    let active = good_references(keys, references);
+    active & good_records(personal)
 }
 
 fn good_selection(s: Selection) -> bool
@@ -76,11 +88,11 @@ fn good_selection(s: Selection) -> bool
 {
     let directory = s.directory;
     let file = s.file;
-    let inside = file_in(directory, file);
+    let inside = files::file_in(directory, file);
     ((directory == 0x3F00) | (directory == 0xEEEE)) & ((file == 0) | inside)
 }
 
-fn good_choice(keys: [bool; 4], kind: u8, key: u16) -> bool
+fn good_choice(keys: [bool; 4], kind: u16, key: u16) -> bool
     ensures { λ r. ⌜ r ≡ (eqb key 0 || usable keys kind key) ⌝ }
 {
     let chosen = keys::usable(keys, kind, key);
@@ -112,36 +124,48 @@ fn good_job(keys: [bool; 4], j: Job) -> bool
     (kind <= 3) & (usable & (le <= 256))
 }
 
+fn good_held(h: Held) -> bool
+    ensures { λ r. ⌜ r ≡ goodHeld h ⌝ }
+{
+    let bytes = h.bytes;
+    let len = numbers::wide16(h.len);
+    octets::good_room(256, &bytes, len)
+}
+
+// The chain, whose last place is empty.
+fn good_chain(n: Chain) -> bool
+    ensures { λ r. ⌜ r ≡ goodChain n ⌝ }
+{
+    let bytes = n.bytes;
+    let len = numbers::wide16(n.len);
+    let room = octets::good_room(258, &bytes, len);
+    (len <= 257) & room
+}
+
 fn good_session(keys: [bool; 4], s: Session) -> bool
     ensures { λ r. ⌜ r ≡ goodSession keys s ⌝ }
 {
     let held = s.held;
     let chain = s.chain;
     let job = s.job;
-    let held_bytes = held.bytes;
-    let chain_bytes = chain.bytes;
-    let held_room = codes::good_room(256, &held_bytes, held.len);
-    let chain_room = codes::good_room(257, &chain_bytes, chain.len);
     let excludes = (job.kind == 0) | (held.len == 0) & (chain.len == 0);
     let selection = good_selection(s.selection);
     let environment = good_environment(keys, s.environment);
-    let waiting = good_job(keys, job);
-    selection & (environment & (held_room & (chain_room & (waiting & excludes))))
+    let held_good = good_held(held);
+    let chain_good = good_chain(chain);
+    let job_good = good_job(keys, job);
+    selection & (environment & (held_good & (chain_good & (job_good & excludes))))
 }
 
 // Whether the state is good.
 pub fn good(card: Card) -> bool
     ensures { λ r. ⌜ r ≡ good card ⌝ }
 {
-    let puk = codes::good_code(Code::PUK, card_codes::code_of(card, Code::PUK));
-    let pin1 = codes::good_code(Code::PIN1, card_codes::code_of(card, Code::PIN1));
-    let pin2 = codes::good_code(Code::PIN2, card_codes::code_of(card, Code::PIN2));
-    let keys = card.keys;
-    let reference_record = card.references;
-    let references = good_references(keys, reference_record);
-    let personal = card.personal;
-    let records = good_records(personal);
-    let current = card.session;
-    let session = good_session(keys, current);
-    puk & (pin1 & (pin2 & (references & (records & session))))
+    let codes = card.codes;
+    let profile = card.profile;
+    let keys = profile.keys;
+    let codes_good = good_codes(codes);
+    let profile_good = good_profile(profile);
+    let session_good = good_session(keys, card.session);
+    codes_good & (profile_good & session_good)
 }

@@ -9,27 +9,27 @@ use native.Mathlib.Nat.{sub-zero}
 use lib.ListN.{length, take, set}
 use lib.Seq.{take-suc-set, append-snoc}
 use Rattle.octets.specs.Octets.{Bytes}
-use Rattle.rules.specs.declared.Fault.{Fault}
-use Rattle.rules.specs.Image.{Reader, continued, pure, byteIf, bytesIf}
+use Rattle.rules.specs.Image.{Reading, continued, pure, byteIf, bytesIf}
 use Rattle.image.specs.declared.Cursor.{Cursor}
 use Rattle.image.specs.Cursors.{from, upTo}
-use Rattle.image.proofs.Readers.{in-pieces, nothing-next, same-next, after, same-from}
+use Rattle.image.proofs.Readings.{in-pieces, nothing-next, same-next, after, same-from}
 
 -- n readings, one after another.
-pub record Repeats {A : Type 0} (one : Reader A) (many : ℕ → Reader (List A)) : Type 0 where
+pub record Repeats {A : Type 0} (one : Reading A) (many : ℕ → Reading (List A)) : Type 0 where
   pub none : (b : Bytes) → many 0 b ≡ pure [] b
   pub more : (n : ℕ) (b : Bytes) → many (suc n) b ≡ continued (one b) (λ a b. continued (many n b) (λ xs. pure (a ∷ xs)))
 
-pub bytes-repeat : (test : ℕ → Bool) (f : Fault) → Repeats (byteIf test f) (bytesIf test f)
+pub bytes-repeat : (test : ℕ → Bool) (f : ℕ) → Repeats (byteIf test f) (bytesIf test f)
 unfolding bytesIf
 bytes-repeat test f = record { none = λ b. refl; more = λ n b. refl }
 
 -- What was read so far and what follows.
-abbrev pub following : {A : Type 0} → (ℕ → Reader (List A)) → List A → ℕ → Reader (List A)
+abbrev pub following : {A : Type 0} → (ℕ → Reading (List A)) → List A → ℕ → Reading (List A)
 following many so-far n b = continued (many n b) (λ xs. pure (so-far ++ xs))
 
-module _ {A : Type 0} {one : Reader A} {many : ℕ → Reader (List A)} (h : Repeats one many) where
-  one-read : (so-far : List A) (n : ℕ) (b : Bytes) → continued (one b) (λ a. following many (so-far ++ (a ∷ [])) n) ≡ following many so-far (suc n) b
+module _ {A : Type 0} {one : Reading A} {many : ℕ → Reading (List A)} (h : Repeats one many) where
+  one-read : (so-far : List A) (n : ℕ) (b : Bytes)
+      → continued (one b) (λ a. following many (so-far ++ (a ∷ [])) n) ≡ following many so-far (suc n) b
   one-read so-far n b =
       rw (h .more n b) (same-next (one b) (λ a b.
       same-next (many n b) (λ xs b. ap (λ (xs : List A). pure xs b) (append-snoc so-far a xs))
@@ -42,7 +42,7 @@ module _ {A : Type 0} {one : Reader A} {many : ℕ → Reader (List A)} (h : Rep
     one-more inside left c d a e =
         let next : n - i ≡ suc (n - (i + 1)) = omega arith in
         let put : take (i + 1) (set room i a) ≡ take i room ++ (a ∷ []) = rw add-one (take-suc-set room i a inside) in
-        rw put (after image c d one a (λ a. following many (take i room ++ (a ∷ [])) (n - (i + 1))) e
+        rw put (after image c d one a (λ a. following many (take i room ++ (a ∷ [])) (n - (i + 1))) e refl
         ∙ same-from image c (λ b. rw next (one-read (take i room) (n - (i + 1)) b)))
 
     pub no-more : i ≤ n → n ≤ i → (c : Cursor) → upTo image c (take n room) ≡ from image c (following many (take i room) (n - i))

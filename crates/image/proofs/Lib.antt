@@ -1,4 +1,4 @@
-pub mod Readers
+pub mod Readings
 pub mod Filling
 pub mod Codes
 pub mod Keys

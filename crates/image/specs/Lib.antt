@@ -1,2 +1,2 @@
 pub mod Cursors
-pub mod Sections
+pub mod Marks

@@ -1,78 +1,76 @@
 // The call load: a card image is read byte by byte, each byte judged as it is read. The first fault in reading order stops it.
 use image_reader::NextByte;
 use rules::Card;
-use rules::Chain;
 use rules::Code;
-use rules::Environment;
 use rules::Fault;
-use rules::Held;
-use rules::Job;
+use rules::JobKind;
 use rules::LoadResult;
 use rules::Loaded;
+use rules::Profile;
 use rules::Record;
-use rules::Selection;
-use rules::Session;
 ghost use mathlib.Core.Path.{_≡_};
-ghost use mathlib.Core.Bool.{true, _&&_};
-ghost use lib.Dec.{leb};
-ghost use Prim.Native.Nat.{_<_};
-ghost use lib.ListN.{take, replicate};
-ghost use Rattle.rules.specs.Codes.{zeroCode};
-ghost use Rattle.rules.specs.Image.{byteIf, anyByte, bytesIf, anyBytes, count, readCode, readPersonal, readRecords, end, zeroRecord, zeroCard, load};
-ghost use Rattle.image.specs.Cursors.{from, upTo, judged};
-ghost use Rattle.image.specs.Sections.{codeSection, keyAfter, withMark, markedKeys, keySection, referenceSection, personalSection, cardOf};
+ghost use mathlib.Core.Bool.{true};
+ghost use Prim.Native.Nat.{ℕ, _<_};
+ghost use lib.ListN.{take};
+ghost use Rattle.rules.specs.declared.Card.{Card};
+ghost use Rattle.rules.specs.Numbers.{kindNumber, faultNumber, loadNumber};
+ghost use Rattle.rules.specs.Keys.{usable, activeKey};
+ghost use Rattle.rules.specs.Image.{byteIf, anyByte, bytesIf, anyBytes, count, end, readCode, readKey, readPersonal, readRecords};
+ghost use Rattle.rules.specs.Image.{codeSection, keySection, referenceSection, personalSection, cardOf, load};
+ghost use Rattle.image.specs.Cursors.{from, upTo, required, within};
+ghost use Rattle.image.specs.Marks.{withMark, markedKeys};
 
 // How far reading has come: to a position, or to the first fault, after which nothing more is read.
-pub enum Cursor {
+enum Cursor {
     At(usize),
     Stopped(Fault),
 }
 
-pub struct ReadByte {
-    pub byte: u8,
-    pub cursor: Cursor,
+struct ReadByte {
+    byte: u8,
+    cursor: Cursor,
 }
 
 // The bytes that were asked for stand first, at most 255 of them.
-pub struct ReadBytes {
-    pub bytes: [u8; 256],
-    pub cursor: Cursor,
+struct ReadBytes {
+    bytes: [u8; 256],
+    cursor: Cursor,
 }
 
-pub struct ReadCode {
-    pub code: Code,
-    pub cursor: Cursor,
+struct ReadCode {
+    code: Code,
+    cursor: Cursor,
 }
 
-pub struct ReadCodes {
-    pub codes: [Code; 3],
-    pub cursor: Cursor,
+struct ReadCodes {
+    codes: [Code; 3],
+    cursor: Cursor,
 }
 
-pub struct ReadKey {
-    pub key: u16,
-    pub cursor: Cursor,
+struct ReadKey {
+    key: u16,
+    cursor: Cursor,
 }
 
 // Which of the four keys were read.
-pub struct ReadKeys {
-    pub keys: [bool; 4],
-    pub cursor: Cursor,
+struct ReadKeys {
+    keys: [bool; 4],
+    cursor: Cursor,
 }
 
-pub struct ReadReferences {
-    pub references: [u8; 21],
-    pub cursor: Cursor,
+struct ReadReferences {
+    references: [u8; 21],
+    cursor: Cursor,
 }
 
-pub struct ReadRecord {
-    pub personal: Record,
-    pub cursor: Cursor,
+struct ReadRecord {
+    personal: Record,
+    cursor: Cursor,
 }
 
-pub struct ReadRecords {
-    pub personal: [Record; 16],
-    pub cursor: Cursor,
+struct ReadRecords {
+    personal: [Record; 16],
+    cursor: Cursor,
 }
 
 // The next byte, whatever it is.
@@ -103,8 +101,8 @@ fn any_byte(image: &[u8], cursor: Cursor) -> ReadByte
 }
 
 // A test that reads nothing.
-fn judged(cursor: Cursor, test: bool, fault: Fault) -> Cursor
-    ensures { λ r. ⌜ r ≡ judged cursor test fault ⌝ }
+fn required(cursor: Cursor, test: bool, fault: Fault) -> Cursor
+    ensures { λ r. ⌜ r ≡ required cursor test fault ⌝ }
 {
     match cursor {
         Cursor::Stopped(first) => Cursor::Stopped(first),
@@ -120,13 +118,13 @@ fn judged(cursor: Cursor, test: bool, fault: Fault) -> Cursor
 
 // The next byte, judged by its limits.
 fn byte_within(image: &[u8], cursor: Cursor, low: usize, high: usize, fault: Fault) -> ReadByte
-    ensures { λ r. ⌜ upTo (now (image .entry)) (r .cursor) (r .byte) ≡ from (now (image .entry)) cursor (byteIf (λ x. leb low x && leb x high) fault) ⌝ }
+    ensures { λ r. ⌜ upTo (now (image .entry)) (r .cursor) (r .byte) ≡ from (now (image .entry)) cursor (byteIf (within low high) (faultNumber fault)) ⌝ }
 {
     let read = any_byte(image, cursor);
     let byte = read.byte;
     let there = read.cursor;
     let n = numbers::wide(byte);
-    let after = judged(there, (low <= n) & (n <= high), fault);
+    let after = required(there, (low <= n) & (n <= high), fault);
     ReadByte {
         byte: byte,
         cursor: after,
@@ -139,7 +137,7 @@ fn count(image: &[u8], cursor: Cursor, n: u8) -> Cursor
 {
     let read = any_byte(image, cursor);
     let there = read.cursor;
-    judged(there, read.byte == n, Fault::WrongCount)
+    required(there, read.byte == n, Fault::WrongCount)
 }
 
 // n bytes, each judged by its limits.
@@ -152,7 +150,7 @@ fn bytes_within(
     fault: Fault,
 ) -> ReadBytes
     requires { ⌜ n < 256 ⌝ }
-    ensures { λ r. ⌜ upTo (now (image .entry)) (r .cursor) (take n (r .bytes)) ≡ from (now (image .entry)) cursor (bytesIf (λ x. leb low x && leb x high) fault n) ⌝ }
+    ensures { λ r. ⌜ upTo (now (image .entry)) (r .cursor) (take n (r .bytes)) ≡ from (now (image .entry)) cursor (bytesIf (within low high) (faultNumber fault) n) ⌝ }
 {
     let mut bytes = [0u8; 256];
     let mut there = cursor;
@@ -240,7 +238,7 @@ fn code_section(image: &[u8], cursor: Cursor) -> ReadCodes
 
 // A known key number above the last one, judged at its second byte.
 fn read_key(image: &[u8], cursor: Cursor, last: u16) -> ReadKey
-    ensures { λ r. ⌜ upTo (now (image .entry)) (r .cursor) (r .key) ≡ from (now (image .entry)) cursor (keyAfter last) ⌝ }
+    ensures { λ r. ⌜ upTo (now (image .entry)) (r .cursor) (r .key) ≡ from (now (image .entry)) cursor (readKey last) ⌝ }
 {
     let high = any_byte(image, cursor);
     let second = high.cursor;
@@ -249,7 +247,7 @@ fn read_key(image: &[u8], cursor: Cursor, last: u16) -> ReadKey
     let key = numbers::word(high.byte, low.byte);
     let signature = keys::is_signature_key(key);
     let authentication = keys::is_authentication_key(key);
-    let after = judged(
+    let after = required(
         there,
         (signature | authentication) & (last < key),
         Fault::BadKey,
@@ -303,7 +301,7 @@ fn key_section(image: &[u8], cursor: Cursor) -> ReadKeys
     let read = read_keys(image, first, numbers::wide(number.byte));
     let last = read.cursor;
     let keys = read.keys;
-    let after = judged(
+    let after = required(
         last,
         (keys[0] | keys[1]) & (keys[2] | keys[3]),
         Fault::BadKey,
@@ -314,6 +312,14 @@ fn key_section(image: &[u8], cursor: Cursor) -> ReadKeys
     }
 }
 
+// Whether the active key for a kind of job is a present key of its class.
+fn active_usable(keys: [bool; 4], references: [u8; 21], kind: JobKind) -> bool
+    ensures { λ r. ⌜ r ≡ usable keys (kindNumber kind) (activeKey references (kindNumber kind)) ⌝ }
+{
+    let number = keys::kind_number(kind);
+    keys::usable(keys, number, keys::active_key(references, number))
+}
+
 // The record of 0033h; the active key of each class is one of the keys read.
 fn reference_section(image: &[u8], cursor: Cursor, keys: [bool; 4]) -> ReadReferences
     ensures { λ r. ⌜ upTo (now (image .entry)) (r .cursor) (r .references) ≡ from (now (image .entry)) cursor (referenceSection keys) ⌝ }
@@ -322,9 +328,9 @@ fn reference_section(image: &[u8], cursor: Cursor, keys: [bool; 4]) -> ReadRefer
     let read = any_bytes(image, first, 21);
     let last = read.cursor;
     let references = arrays::filled_21(octets::part(&read.bytes, 0, 21));
-    let authentication = keys::usable(keys, 1, keys::active_key(references, 1));
-    let signature = keys::usable(keys, 2, keys::active_key(references, 2));
-    let after = judged(last, authentication & signature, Fault::BadReference);
+    let authentication = active_usable(keys, references, JobKind::Authenticate);
+    let signature = active_usable(keys, references, JobKind::Sign);
+    let after = required(last, authentication & signature, Fault::BadReference);
     ReadReferences {
         references: references,
         cursor: after,
@@ -342,7 +348,7 @@ fn read_record(image: &[u8], cursor: Cursor) -> ReadRecord
     let after = read.cursor;
     let personal = Record {
         bytes: arrays::filled_64(octets::part(&read.bytes, 0, n)),
-        len: n,
+        len: len.byte,
     };
     ReadRecord {
         personal: personal,
@@ -350,22 +356,11 @@ fn read_record(image: &[u8], cursor: Cursor) -> ReadRecord
     }
 }
 
-// Records of all zeros.
-fn zero_records() -> [Record; 16]
-    ensures { λ r. ⌜ r ≡ replicate 16 zeroRecord ⌝ }
-{
-    let empty = Record {
-        bytes: [0u8; 64],
-        len: 0,
-    };
-    [empty; 16]
-}
-
 // Sixteen personal records.
 fn read_records(image: &[u8], cursor: Cursor) -> ReadRecords
     ensures { λ r. ⌜ upTo (now (image .entry)) (r .cursor) (r .personal) ≡ from (now (image .entry)) cursor (readRecords 16) ⌝ }
 {
-    let mut personal = zero_records();
+    let mut personal = zero_state::records();
     let mut there = cursor;
     let mut i = 0;
     while i < 16 {
@@ -389,84 +384,30 @@ fn personal_section(image: &[u8], cursor: Cursor) -> ReadRecords
     read_records(image, first)
 }
 
-// Parts of the all-zero state.
-fn zero_codes() -> [Code; 3]
-    ensures { λ r. ⌜ r ≡ replicate 3 zeroCode ⌝ }
-{
-    let code = card_codes::zero_code();
-    [code; 3]
-}
-
-fn zero_session() -> Session
-    ensures { λ r. ⌜ r ≡ zeroCard .session ⌝ }
-{
-    let selection = Selection {
-        directory: 0,
-        file: 0,
-    };
-    let environment = Environment {
-        number: 0,
-        choices: [0u16; 3],
-    };
-    let held = Held {
-        bytes: [0u8; 256],
-        len: 0,
-    };
-    let chain = Chain {
-        bytes: [0u8; 257],
-        len: 0,
-    };
-    let job = Job {
-        kind: 0,
-        key: 0,
-        le: 0,
-    };
-    Session {
-        selection: selection,
-        environment: environment,
-        held: held,
-        chain: chain,
-        job: job,
-    }
-}
-
-// The all-zero state, which is not good.
-fn zero_card() -> Card
-    ensures { λ r. ⌜ r ≡ zeroCard ⌝ }
-{
-    let codes = zero_codes();
-    let references = [0u8; 21];
-    let personal = zero_records();
-    let session = zero_session();
-    Card {
-        codes: codes,
-        keys: [false; 4],
-        references: references,
-        personal: personal,
-        session: session,
-    }
-}
-
 // The card that was read.
-fn card_of(c: ReadCodes, keys: [bool; 4], r: ReadReferences, p: ReadRecords) -> Card
-    ensures { λ card. ⌜ card ≡ cardOf (c .codes) keys (r .references) (p .personal) ⌝ }
+fn card_of(c: ReadCodes, k: ReadKeys, r: ReadReferences, p: ReadRecords) -> Card
+    ensures { λ card. ⌜ card ≡ cardOf (c .codes) (k .keys) (r .references) (p .personal) ⌝ }
 {
     let codes = c.codes;
+    let keys = k.keys;
     let references = r.references;
     let personal = p.personal;
-    let session = pending::new_session();
-    Card {
-        codes: codes,
+    let profile = Profile {
         keys: keys,
         references: references,
         personal: personal,
+    };
+    let session = pending::new_session();
+    Card {
+        codes: codes,
+        profile: profile,
         session: session,
     }
 }
 
 // The card that an image says, in a new session; or the first fault beside the all-zero state.
 pub fn load(image: &[u8]) -> Loaded
-    ensures { λ r. ⌜ r ≡ load (now (image .entry)) ⌝ }
+    ensures { λ r. ⌜ _≡_ {A = ℕ × Card} (loadNumber (r .result), r .card) (load (now (image .entry))) ⌝ }
 {
     let code_part = code_section(image, Cursor::At(0));
     let after_codes = code_part.cursor;
@@ -479,12 +420,27 @@ pub fn load(image: &[u8]) -> Loaded
     let after_personal = personal_part.cursor;
     match end(image, after_personal) {
         Cursor::Stopped(fault) => Loaded {
-            card: zero_card(),
+            card: zero_state::card(),
             result: LoadResult::Faulty(fault),
         },
         Cursor::At(_) => Loaded {
-            card: card_of(code_part, keys, reference_part, personal_part),
+            card: card_of(code_part, key_part, reference_part, personal_part),
             result: LoadResult::Accepted,
         },
+    }
+}
+
+// Document 01's number of a fault.
+pub fn fault_number(fault: Fault) -> u8
+    ensures { λ r. ⌜ r ≡ faultNumber fault ⌝ }
+{
+    match fault {
+        Fault::EndsEarly => 21,
+        Fault::WrongCount => 22,
+        Fault::BadCode => 23,
+        Fault::BadKey => 24,
+        Fault::BadReference => 25,
+        Fault::RecordLength => 26,
+        Fault::LeftOver => 27,
     }
 }

@@ -1,6 +1,7 @@
 -- What stands at a place of an image, the place after it, and a reader there. No rule of document 01 stands here.
 use Prim.Native.Nat.{ℕ, _+_}
 use mathlib.Core.Bool.{cond}
+use mathlib.Core.List.{[], _∷_}
 use lib.ListN.{length}
 use lib.Dec.{ltb}
 use denote.Ref.{RefT, now}
@@ -9,6 +10,11 @@ use Rattle.image_reader.specs.declared.NextByte.{NextByte}
 use Rattle.image_reader.specs.declared.NextByte.the-variants.{Byte, End}
 use Rattle.image_reader.specs.declared.Found.{Found}
 use Rattle.image_reader.specs.declared.Reader.{Reader}
+
+-- What each case says: a byte stands there, or nothing.
+abbrev pub standing : NextByte → Bytes
+standing (Byte x) = x ∷ []
+standing End = []
 
 -- The byte at a place, or the end.
 unfoldable pub nextAt : Bytes → ℕ → NextByte

@@ -1,15 +1,18 @@
-// A card image read byte by byte. A reader holds the image and a position in it. The borrow checker covers no function over such a struct, so `new`, `next`, `after`
-// and `place` are proved by hand, and so is `read_at`, which has plain parameters and stands above them; `byte_from` and `place_from`, which take a plain slice, do
-// the work.
+// A card image read byte by byte. A reader holds the image and a position in it. The borrow checker covers no function over such
+// a struct, so `new`, `next`, `after` and `place` are proved by hand, and so is `read_at`, which has plain parameters and stands
+// above them; `byte_from` and `place_from`, which take a plain slice, do the work.
 ghost use mathlib.Core.Path.{_≡_};
-ghost use Rattle.image_reader.specs.Reading.{nextAt, placeAfter, readerAt, readerAfter, foundAt};
+ghost use Prim.Native.Nat.{ℕ};
+ghost use lib.ListN.{take, drop};
+ghost use Rattle.octets.specs.Octets.{Bytes};
+ghost use Rattle.image_reader.specs.Reading.{standing, nextAt, placeAfter, readerAt, readerAfter};
 
-pub struct Reader<'a> {
-    pub image: &'a [u8],
-    pub at: usize,
+struct Reader<'a> {
+    image: &'a [u8],
+    at: usize,
 }
 
-// What stands at a position.
+// What stands at a position; `standing` says what each case is.
 pub enum NextByte {
     Byte(u8),
     End,
@@ -74,7 +77,7 @@ fn place<'a>(r: Reader<'a>) -> usize
 
 // What a reader of an image finds at a position, and where it stands afterwards.
 pub fn read_at(image: &[u8], at: usize) -> Found
-    ensures { λ f. ⌜ f ≡ foundAt (now (image .entry)) at ⌝ }
+    ensures { λ f. ⌜ _≡_ {A = Bytes × ℕ} (standing (f .next), f .place) (take 1 (drop at (now (image .entry))), placeAfter (now (image .entry)) at) ⌝ }
 {
     let r = new(image, at);
     Found {

@@ -1,4 +1,3 @@
 pub mod Choices
-pub mod Jobs
 pub mod Ciphers
-pub mod Deliveries
+pub mod Jobs

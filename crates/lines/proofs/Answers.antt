@@ -13,8 +13,8 @@ use Rattle.octets.proofs.Strings.{take-filled}
 use Rattle.hex.specs.Hex.{isHex, bytesOf}
 use Rattle.hex.proofs.Laws.{length-bytesOf, length-bytesOf-div}
 use Rattle.rules.specs.declared.Card.{Card}
-use Rattle.rules.specs.Edge.{delivery, powerReset}
-use Rattle.lines.specs.Lines.{Said, command-of, lineFeed, said, answerTo, callOf, requestOf, answerLine}
+use Rattle.rules.specs.Edge.{delivery}
+use Rattle.lines.specs.Lines.{Said, command-of, lineFeed, said, afterReset, answerTo, callOf, requestOf, answerLine}
 use Rattle.lines.specs.Held.{callAnswer}
 
 -- The bytes that a line's hex says, read from the room that they were written to.
@@ -38,7 +38,7 @@ module _ (c : Card) (authentication signature line : Bytes) where
     by-command i = simp (← e, ← l, eq-eqb letter 0x43 i)
 
     module _ (n : letter ≢ 0x43) where
-      pub by-delivery : letter ≡ 0x44 → said (delivery c call (blank 258) .0) (delivery c call (blank 258) .1) ≡ calling
+      pub by-delivery : letter ≡ 0x44 → said (delivery c call (blank 258)) ≡ calling
       unfolding callOf answerTo
       by-delivery i = simp (← e, ← l, ne-eqb letter 0x43 n, eq-eqb letter 0x44 i)
 
@@ -55,7 +55,7 @@ module _ (c : Card) (authentication signature line : Bytes) where
   too-long h = simp (lt-ltb 1024 (length line) h)
 
   module _ (h : length line ≤ 1024) {p : Bool} (q : p ≡ same line (0x50 ∷ [])) where
-    pub by-reset : p ≡ true → said (powerReset c) (blank 258) ≡ answering
+    pub by-reset : p ≡ true → said (afterReset c) ≡ answering
     unfolding requestOf answerTo
     by-reset t = simp (le-ltb 1024 (length line) h, ← q, t)
 

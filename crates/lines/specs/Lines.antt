@@ -7,11 +7,8 @@ use lib.Dec.{eqb, ltb}
 use Rattle.octets.specs.Octets.{Bytes, byteAt, same, blank}
 use Rattle.hex.specs.Hex.{isHex, bytesOf, hexOf}
 use Rattle.rules.specs.declared.Card.{Card}
-use Rattle.rules.specs.declared.Outcome.{Outcome}
-use Rattle.rules.specs.declared.Reply.{Reply}
-use Rattle.rules.specs.declared.Reply.the-variants.{Refused, Response, HandedOut, WasReset}
-use Rattle.rules.specs.Keys.{kindNumber}
-use Rattle.rules.specs.Edge.{refusalNumber, command, delivery, powerReset}
+use Rattle.rules.specs.Numbers.{Returned, edge, responded, handedOut, wasReset}
+use Rattle.rules.specs.Edge.{Result, command, delivery, powerReset}
 
 -- Lines end in a line feed.
 abbrev pub lineFeed : ℕ
@@ -41,26 +38,29 @@ abbrev pub numeral : ℕ → ℕ
 numeral n = 0x30 + n
 
 -- Out: P; R and the response in the same hex; J, kind, space, key as four such digits; H and the edge number.
-unfoldable pub replyText : Reply → Bytes → Bytes
-replyText WasReset buffer = 0x50 ∷ []
-replyText (Response n) buffer = 0x52 ∷ hexOf (take n buffer)
-replyText (HandedOut kind key) buffer = 0x4A ∷ numeral (kindNumber kind) ∷ 0x20 ∷ hexOf ((key / 256) ∷ (key % 256) ∷ [])
-replyText (Refused r) buffer = 0x48 ∷ numeral (refusalNumber r) ∷ []
+unfoldable pub replyText : Returned → Bytes → Bytes
+replyText wasReset buffer = 0x50 ∷ []
+replyText (responded n) buffer = 0x52 ∷ hexOf (take n buffer)
+replyText (handedOut kind key) buffer = 0x4A ∷ numeral kind ∷ 0x20 ∷ hexOf ((key / 256) ∷ (key % 256) ∷ [])
+replyText (edge n) buffer = 0x48 ∷ numeral n ∷ []
 
 -- The next card, and the output line with its line feed.
 pub record Said : Type 0 where
   pub card : Card
   pub text : Bytes
 
-abbrev pub said : Outcome → Bytes → Said
-said o buffer = record { card = o .card; text = replyText (o .reply) buffer ++ lineFeed ∷ [] }
+abbrev pub said : Result → Said
+said r = record { card = r .card; text = replyText (r .returned) (r .buffer) ++ lineFeed ∷ [] }
+
+-- A reset has no buffer; nothing is shown of this one.
+abbrev pub afterReset : Card → Result
+afterReset c = record { returned = powerReset c .0; card = powerReset c .1; buffer = blank 258 }
 
 -- One line of output for each line of input; ? for other lines.
 unfoldable pub answerTo : Card → Bytes → Bytes → Request → Said
-answerTo c authentication signature reset = said (powerReset c) (blank 258)
-answerTo c authentication signature (command-of apdu) =
-    said (command c apdu authentication signature (blank 258) .0) (command c apdu authentication signature (blank 258) .1)
-answerTo c authentication signature (delivery-of result) = said (delivery c result (blank 258) .0) (delivery c result (blank 258) .1)
+answerTo c authentication signature reset = said (afterReset c)
+answerTo c authentication signature (command-of apdu) = said (command c apdu authentication signature (blank 258))
+answerTo c authentication signature (delivery-of result) = said (delivery c result (blank 258))
 answerTo c authentication signature other = record { card = c; text = 0x3F ∷ lineFeed ∷ [] }
 
 abbrev pub answerLine : Card → Bytes → Bytes → Bytes → Said

@@ -13,9 +13,8 @@ ghost use lib.ListN.{length, take, drop};
 ghost use Rattle.octets.specs.Octets.{blank};
 ghost use Rattle.hex.specs.Hex.{isHex, hexOf};
 ghost use Rattle.text.specs.Text.{textOf};
-ghost use Rattle.rules.specs.Keys.{kindNumber};
-ghost use Rattle.rules.specs.Edge.{refusalNumber, delivery};
-ghost use Rattle.rules.specs.declared.Reply.the-variants.{Refused, Response, HandedOut};
+ghost use Rattle.rules.specs.Numbers.{kindNumber, refusalNumber, returned, edge, responded, handedOut};
+ghost use Rattle.rules.specs.Edge.{delivery};
 ghost use Rattle.lines.specs.Lines.{command-of, lineFeed, numeral, replyText, said, answerTo, answerLine};
 ghost use Rattle.lines.specs.Held.{callAnswer, saidOf};
 
@@ -60,7 +59,7 @@ fn with_hex(t: Text, d: &[u8]) -> Text
 
 // R and the response.
 fn response_line(n: usize, buffer: [u8; 258]) -> Text
-    ensures { λ r. ⌜ textOf r ≡ replyText (Response n) buffer ++ lineFeed ∷ [] ⌝ }
+    ensures { λ r. ⌜ textOf r ≡ replyText (responded n) buffer ++ lineFeed ∷ [] ⌝ }
 {
     let letter = text::with(text::empty(), b"R");
     let coded = with_hex(letter, octets::part(&buffer, 0, n));
@@ -69,7 +68,7 @@ fn response_line(n: usize, buffer: [u8; 258]) -> Text
 
 // J, the kind, a space and the key.
 fn job_line(kind: JobKind, key: u16) -> Text
-    ensures { λ r. ⌜ textOf r ≡ replyText (HandedOut kind key) [] ++ lineFeed ∷ [] ⌝ }
+    ensures { λ r. ⌜ textOf r ≡ replyText (handedOut (kindNumber kind) key) [] ++ lineFeed ∷ [] ⌝ }
 {
     let head = [b'J', kind_numeral(kind), b' '];
     let named = text::with(text::empty(), &head);
@@ -80,7 +79,7 @@ fn job_line(kind: JobKind, key: u16) -> Text
 
 // H and the edge number.
 fn refusal_line(refusal: Refusal) -> Text
-    ensures { λ r. ⌜ textOf r ≡ replyText (Refused refusal) [] ++ lineFeed ∷ [] ⌝ }
+    ensures { λ r. ⌜ textOf r ≡ replyText (edge (refusalNumber refusal)) [] ++ lineFeed ∷ [] ⌝ }
 {
     let head = [b'H', refusal_numeral(refusal), b'\n'];
     text::with(text::empty(), &head)
@@ -88,7 +87,7 @@ fn refusal_line(refusal: Refusal) -> Text
 
 // The output line of a reply.
 fn reply_line(reply: Reply, buffer: [u8; 258]) -> Text
-    ensures { λ r. ⌜ textOf r ≡ replyText reply buffer ++ lineFeed ∷ [] ⌝ }
+    ensures { λ r. ⌜ textOf r ≡ replyText (returned reply) buffer ++ lineFeed ∷ [] ⌝ }
 {
     match reply {
         Reply::WasReset => text::with(text::empty(), b"P\n"),
@@ -100,7 +99,7 @@ fn reply_line(reply: Reply, buffer: [u8; 258]) -> Text
 
 // A call's outcome as the next card and an output line.
 fn shown(outcome: Outcome, buffer: [u8; 258]) -> Answered
-    ensures { λ r. ⌜ saidOf r ≡ said outcome buffer ⌝ }
+    ensures { λ r. ⌜ saidOf r ≡ said (record { returned = returned (outcome .reply); card = outcome .card; buffer = buffer }) ⌝ }
 {
     let card = outcome.card;
     let reply = outcome.reply;
@@ -143,7 +142,7 @@ fn answer_command<'a>(
 }
 
 fn answer_delivery(card: Card, result: &[u8]) -> Answered
-    ensures { λ r. ⌜ saidOf r ≡ said (delivery card (now (result .entry)) (blank 258) .0) (delivery card (now (result .entry)) (blank 258) .1) ⌝ }
+    ensures { λ r. ⌜ saidOf r ≡ said (delivery card (now (result .entry)) (blank 258)) ⌝ }
 {
     let mut buffer = blank_258();
     let outcome = card::delivery(card, result, &mut buffer);

@@ -20,13 +20,17 @@ fn print_bytes(name: &[u8], s: &[u8]) {
     print(b"\n");
 }
 
+fn print_number(n: u8) {
+    io::print_decimal(STDOUT_FILENO, numbers::wide(n) as u64);
+}
+
 // A name, the digits and the tries left.
 fn print_code(name: &[u8], code: Code) {
     let digits = code.digits;
     print(name);
-    print(octets::part(&digits, 0, code.len));
+    print(octets::part(&digits, 0, numbers::wide(code.len)));
     print(b" ");
-    io::print_decimal(STDOUT_FILENO, numbers::wide(code.tries) as u64);
+    print_number(code.tries);
     print(b"\n");
 }
 
@@ -51,7 +55,10 @@ fn print_references(references: [u8; 21]) {
 
 fn print_record(record: Record) {
     let bytes = record.bytes;
-    print_bytes(b"record ", octets::part(&bytes, 0, record.len));
+    print_bytes(
+        b"record ",
+        octets::part(&bytes, 0, numbers::wide(record.len)),
+    );
 }
 
 fn print_records(personal: [Record; 16]) {
@@ -64,27 +71,22 @@ fn print_records(personal: [Record; 16]) {
 }
 
 fn print_card(card: Card) {
-    print_code(b"PUK ", card_codes::code_of(card, Code::PUK));
-    print_code(b"PIN1 ", card_codes::code_of(card, Code::PIN1));
-    print_code(b"PIN2 ", card_codes::code_of(card, Code::PIN2));
-    let keys = card.keys;
+    let codes = card.codes;
+    print_code(b"PUK ", card_codes::code_of(codes, Code::PUK));
+    print_code(b"PIN1 ", card_codes::code_of(codes, Code::PIN1));
+    print_code(b"PIN2 ", card_codes::code_of(codes, Code::PIN2));
+    let profile = card.profile;
+    let keys = profile.keys;
     print_keys(keys);
-    let references = card.references;
+    let references = profile.references;
     print_references(references);
-    let personal = card.personal;
+    let personal = profile.personal;
     print_records(personal);
 }
 
 fn print_fault(fault: Fault) {
-    match fault {
-        Fault::EndsEarly => print(b"21\n"),
-        Fault::WrongCount => print(b"22\n"),
-        Fault::BadCode => print(b"23\n"),
-        Fault::BadKey => print(b"24\n"),
-        Fault::BadReference => print(b"25\n"),
-        Fault::RecordLength => print(b"26\n"),
-        Fault::LeftOver => print(b"27\n"),
-    }
+    print_number(image::fault_number(fault));
+    print(b"\n");
 }
 
 // An image of more than 1,115 bytes is refused by what stands in its first 1,116, so 4,096 bytes of it are enough.

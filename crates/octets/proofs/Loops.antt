@@ -1,12 +1,11 @@
 -- Laws of loops that go through strings by an index: what is left from the index on decides.
 use mathlib.Core.Path.{_≡_}
-use mathlib.Core.Logic.{_≢_}
 use mathlib.Core.Bool.{Bool, true, false, _&&_, and-assoc, and-true}
 use Prim.Native.Nat.{ℕ, _+_, _<_, _≤_}
 use native.Mathlib.Numerals.{add-one}
+use lib.Dec.{eqb}
 use lib.ListN.{length, drop, drop-of-length-le}
 use lib.Seq.{drop-cons}
-use borrow.Author.Tests.{eq-eqb, ne-eqb}
 use Rattle.octets.specs.Octets.{Bytes, byteAt, same, all}
 
 -- A test of every byte: the byte at the index passes, it does not, or none is left.
@@ -28,13 +27,11 @@ module _ (t : ℕ → Bool) (s : Bytes) (i : ℕ) (b : Bool) where
   pub fold-end : length s ≤ i → (b && all t (drop i s)) ≡ b
   fold-end h = rw (drop-of-length-le s h, and-true)
 
--- Two strings side by side: the bytes at the index are equal, they are not, or none is left of either.
-module _ (a b : Bytes) (i : ℕ) where
-  pub same-more : i < length a → i < length b → byteAt a i ≡ byteAt b i → same (drop i a) (drop i b) ≡ same (drop (i + 1) a) (drop (i + 1) b)
-  same-more h g e = rw (add-one, drop-cons a i 0, drop-cons b i 0, eq-eqb _ _ e)
+-- Two strings side by side, with no early end: k tells of the bytes before the index.
+module _ (a b : Bytes) (i : ℕ) (k : Bool) where
+  pub same-more : i < length a → i < length b
+      → (k && same (drop i a) (drop i b)) ≡ ((k && eqb (byteAt a i) (byteAt b i)) && same (drop (i + 1) a) (drop (i + 1) b))
+  same-more h g = rw (add-one, drop-cons a i 0, drop-cons b i 0, and-assoc)
 
-  pub same-stop : i < length a → i < length b → byteAt a i ≢ byteAt b i → same (drop i a) (drop i b) ≡ false
-  same-stop h g n = rw (drop-cons a i 0, drop-cons b i 0, ne-eqb _ _ n)
-
-  pub same-end : length a ≤ i → length b ≤ i → same (drop i a) (drop i b) ≡ true
-  same-end h g = rw (drop-of-length-le a h, drop-of-length-le b g)
+  pub same-end : length a ≤ i → length b ≤ i → (k && same (drop i a) (drop i b)) ≡ k
+  same-end h g = rw (drop-of-length-le a h, drop-of-length-le b g, and-true)

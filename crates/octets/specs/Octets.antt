@@ -66,3 +66,7 @@ filled n d = d ++ blank (n - length d)
 -- A string with another written into it from a place on, as much of it as fits; past the end nothing is written.
 unfoldable pub pasted : Bytes → ℕ → Bytes → Bytes
 pasted dst at src = take at dst ++ (take (length dst - at) src ++ drop (at + length src) dst)
+
+-- A string of a stated length in an array of a stated size: the length fits, and every unused place is zero.
+unfoldable pub goodRoom : ℕ → Bytes → ℕ → Bool
+goodRoom size bytes len = every (eqb (length bytes) size ∷ leb len size ∷ allZero (drop len bytes) ∷ [])

@@ -2,23 +2,22 @@
 // The definitions that the contracts cite stand in specs/, their laws in proofs/.
 ghost use mathlib.Core.Path.{_≡_};
 ghost use lib.ListN.{take, drop};
-ghost use Rattle.octets.specs.Octets.{byteAt, same, allDigits, allZero};
+ghost use Rattle.octets.specs.Octets.{byteAt, same, allDigits, allZero, goodRoom};
 
-// Whether a and b are the same string, in bytes and in length.
+// Whether a and b are the same string, in bytes and in length. Every byte of strings of one length is compared.
 pub fn equal(a: &[u8], b: &[u8]) -> bool
     ensures { λ r. ⌜ r ≡ same (now (a .entry)) (now (b .entry)) ⌝ }
 {
     if a.len() != b.len() {
         return false;
     }
+    let mut alike = true;
     let mut i = 0;
     while i < a.len() {
-        if a[i] != b[i] {
-            return false;
-        }
+        alike = alike & (a[i] == b[i]);
         i += 1;
     }
-    true
+    alike
 }
 
 // The n bytes of s from index `from` on, or those of them that s has.
@@ -71,4 +70,13 @@ pub fn all_zero(s: &[u8]) -> bool
         i += 1;
     }
     zero
+}
+
+// Whether an array has the size stated, `len` is at most that size, and zeros stand after the first `len` places.
+pub fn good_room(size: usize, bytes: &[u8], len: usize) -> bool
+    ensures { λ r. ⌜ r ≡ goodRoom size (now (bytes .entry)) len ⌝ }
+{
+    let n = bytes.len();
+    let unused = all_zero(part(bytes, len, n));
+    (n == size) & ((len <= size) & unused)
 }

@@ -1,5 +1,5 @@
-// What waits in a session for the next command, the held answer and the chain, replaced and dropped; and a new session, in which nothing waits.
-use rules::Card;
+// What waits in a session for the next command, the held answer and the chain, replaced and dropped; and a new session, in
+// which nothing waits.
 use rules::Chain;
 use rules::Environment;
 use rules::Held;
@@ -8,17 +8,17 @@ use rules::Selection;
 use rules::Session;
 ghost use mathlib.Core.Path.{_≡_};
 ghost use lib.ListN.{take};
-ghost use Rattle.rules.specs.Session.{holding, joining, withHeld, withChain, dropHeld, dropChain, newSession};
-ghost use Rattle.rules.specs.Judgement.{dropPending};
+ghost use Rattle.rules.specs.Session.{holding, joining, withHeld, withChain, dropHeld, dropChain, dropBoth, newSession};
 
 // A held answer, and a chain, of some bytes, or of as many as fit.
 fn holding(d: &[u8]) -> Held
     ensures { λ r. ⌜ r ≡ holding (take 256 (now (d .entry))) ⌝ }
 {
     let kept = octets::part(d, 0, 256);
+    let len = kept.len() as u16;
     Held {
         bytes: arrays::filled_256(kept),
-        len: kept.len(),
+        len: len,
     }
 }
 
@@ -26,9 +26,10 @@ fn joining(d: &[u8]) -> Chain
     ensures { λ r. ⌜ r ≡ joining (take 257 (now (d .entry))) ⌝ }
 {
     let kept = octets::part(d, 0, 257);
+    let len = kept.len() as u16;
     Chain {
-        bytes: arrays::filled_257(kept),
-        len: kept.len(),
+        bytes: arrays::filled_258(kept),
+        len: len,
     }
 }
 
@@ -51,7 +52,7 @@ pub fn with_chain(s: Session, d: &[u8]) -> Session
     next
 }
 
-// The held answer dropped; the chain dropped.
+// The held answer dropped; the chain dropped; both dropped.
 pub fn drop_held(s: Session) -> Session
     ensures { λ r. ⌜ r ≡ dropHeld s ⌝ }
 {
@@ -64,14 +65,11 @@ pub fn drop_chain(s: Session) -> Session
     with_chain(s, b"")
 }
 
-// The card with neither a held answer nor a chain.
-pub fn drop_pending(card: Card) -> Card
-    ensures { λ r. ⌜ r ≡ dropPending card ⌝ }
+pub fn drop_both(s: Session) -> Session
+    ensures { λ r. ⌜ r ≡ dropBoth s ⌝ }
 {
-    let s = card.session;
     let chainless = drop_chain(s);
-    let bare = drop_held(chainless);
-    state::with_session(card, bare)
+    drop_held(chainless)
 }
 
 // What load and power reset give.

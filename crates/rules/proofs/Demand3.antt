@@ -14,7 +14,7 @@ use Rattle.rules.proofs.Keeping.{kept}
 pub demand-3 : Demand3
 unfolding newSession
 demand-3 image accepted =
-    let c = load image .card in
+    let c = load image .1 in
     let f = fresh image accepted in
     record {
       bound = λ calls k h. omega (arith, wrong-bound k h c calls, f .tries k h);

@@ -9,14 +9,17 @@ use lib.ListN.{length}
 use borrow.Author.Tests.{eqb-false, ltb-true, eq-eqb, le-leb}
 use Rattle.octets.specs.Octets.{Bytes}
 use Rattle.octets.proofs.Tests.{split}
-use Rattle.rules.specs.declared.Card.{Card}
+use Rattle.rules.specs.declared.CodeStep.{CodeStep}
 use Rattle.rules.specs.declared.Session.{Session}
 use Rattle.rules.specs.declared.JobKind.{JobKind}
 use Rattle.rules.specs.declared.JobKind.the-variants.{Authenticate, Sign, Decipher}
-use Rattle.rules.specs.Keys.{kindNumber, usable, keyFor}
-use Rattle.rules.specs.State.{goodReferences, goodJob, goodSession, good}
-use Rattle.rules.specs.Answers.{Answer, response, job, Step, SessionStep, moreBytes, give, handOut}
-use Rattle.rules.specs.Demands.{refusalStatus}
+use Rattle.rules.specs.Numbers.{kindNumber}
+use Rattle.rules.specs.Keys.{usable}
+use Rattle.rules.specs.State.{goodCodes, goodReferences, goodJob, goodSession}
+use Rattle.rules.specs.Answers.{Answer, response, job, Step, SessionStep, sessionStatus, moreBytes, give, handOut}
+use Rattle.rules.specs.KeyCommands.{jobKey}
+use Rattle.rules.specs.Demands.{blockOf, refusalStatus}
+use Rattle.rules.proofs.Walks.{give-walk}
 use Rattle.rules.proofs.Sessions.{held-replaced, job-replaced, environment-good, key-usable}
 
 -- A response: at most 256 bytes of data, two status bytes, and no data with a refusal.
@@ -25,24 +28,41 @@ pub record FitResponse (d : Bytes) (sw : ℕ) : Type 0 where
   pub word : sw < 65536
   pub refusal : refusalStatus sw ≡ true → length d ≡ 0
 
--- A job's block has 256 bytes.
-abbrev pub Fit : Answer → Type 0
-Fit (response d sw) = FitResponse d sw
-Fit (job kind key block) = length block ≡ 256
+-- A response that fits, or a job of which J holds, by kind and block.
+abbrev pub Fit : (ℕ → Bytes → Type 0) → Answer → Type 0
+Fit J (response d sw) = FitResponse d sw
+Fit J (job kind key block) = J kind block
+
+-- No job.
+abbrev pub NoJob : ℕ → Bytes → Type 0
+NoJob kind block = ⊥
+
+-- A job that a command hands out in session s with the data d: its kind, and its block of 256 bytes.
+pub record OwnJob (s : Session) (d : Bytes) (kind : ℕ) (block : Bytes) : Type 0 where
+  pub least : 1 ≤ kind
+  pub most : kind ≤ 3
+  pub size : length block ≡ 256
+  pub own : block ≡ blockOf s d kind
 
 -- A command that changes nothing but the session.
-pub record Keeps (keys : List Bool) (s : SessionStep) : Type 0 where
-  pub session : goodSession keys (s .session) ≡ true
-  pub answer : Fit (s .answer)
+pub record Keeps (J : ℕ → Bytes → Type 0) (keys : List Bool) (o : SessionStep) : Type 0 where
+  pub session : goodSession keys (o .session) ≡ true
+  pub answer : Fit J (o .answer)
+
+-- One that changes nothing but the codes.
+pub record KeepsCodes (o : CodeStep) : Type 0 where
+  pub codes : goodCodes (o .codes) ≡ true
+  pub word : o .sw < 65536
 
 -- Any command.
-pub record KeepsCard (o : Step) : Type 0 where
-  pub card : good (o .card) ≡ true
-  pub answer : Fit (o .answer)
+pub record KeepsBoth (J : ℕ → Bytes → Type 0) (keys : List Bool) (o : Step) : Type 0 where
+  pub codes : goodCodes (o .codes) ≡ true
+  pub session : goodSession keys (o .session) ≡ true
+  pub answer : Fit J (o .answer)
 
 -- A status word alone, data with 9000, data with 61 and n.
-status-fits : {sw : ℕ} → ltb sw 65536 ≡ true → FitResponse [] sw
-status-fits {sw} h = record { size = omega arith; word = ltb-true sw 65536 h; refusal = λ e. refl }
+pub status-fits : {sw : ℕ} → sw < 65536 → FitResponse [] sw
+status-fits h = record { size = omega arith; word = h; refusal = λ e. refl }
 
 data-fits : {d : Bytes} → length d ≤ 256 → FitResponse d 0x9000
 data-fits h = record { size = h; word = omega arith; refusal = λ e. absurd (false≢true e) }
@@ -63,25 +83,23 @@ more-fits {d} {n} h le =
       refusal = λ e. absurd (false≢true (sym (simp (eq-eqb _ _ high, and-false)) ∙ e));
     }
 
--- A step that answers a status word alone.
-pub status-keeps : {c : Card} {sw : ℕ} → good c ≡ true → ltb sw 65536 ≡ true → KeepsCard (record { card = c; answer = response [] sw })
-status-keeps g h = record { card = g; answer = status-fits h }
+module _ {J : ℕ → Bytes → Type 0} {keys : List Bool} {s : Session} (g : goodSession keys s ≡ true) where
+  -- a status word alone; a refusal is below 9000h
+  pub status-keeps : {sw : ℕ} → sw < 65536 → Keeps J keys (sessionStatus s sw)
+  status-keeps h = record { session = g; answer = status-fits h }
 
-pub sessionStatus-keeps : {keys : List Bool} {s : Session} {sw : ℕ} → goodSession keys s ≡ true → ltb sw 65536 ≡ true
-    → Keeps keys (record { session = s; answer = response [] sw })
-sessionStatus-keeps g h = record { session = g; answer = status-fits h }
+  pub refusal-keeps : (sw : ℕ) → ltb sw 0x9000 ≡ true → Keeps J keys (sessionStatus s sw)
+  refusal-keeps sw h = status-keeps (omega (arith, ltb-true sw 0x9000 h))
 
--- All data with 9000; response data by Le.
-pub data-keeps : {keys : List Bool} {s : Session} {d : Bytes} → goodSession keys s ≡ true → length d ≤ 256
-    → Keeps keys (record { session = s; answer = response d 0x9000 })
-data-keeps g h = record { session = g; answer = data-fits h }
+  -- all data with 9000; response data by Le
+  pub data-keeps : {d : Bytes} → length d ≤ 256 → Keeps J keys (record { session = s; answer = response d 0x9000 })
+  data-keeps h = record { session = g; answer = data-fits h }
 
-pub give-keeps : (keys : List Bool) (s : Session) (le : ℕ) (d : Bytes) → goodSession keys s ≡ true → s .job .kind ≡ 0 → length d ≤ 256
-    → Keeps keys (give s le d)
-unfolding give
-give-keeps keys s le d g idle h =
-    split (Keeps keys) (leb (length d) le) (λ e. data-keeps g h)
-    (λ e. record { session = held-replaced keys s g idle d h; answer = more-fits {d = []} (omega arith) h })
+pub give-keeps : (J : ℕ → Bytes → Type 0) (keys : List Bool) (s : Session) → goodSession keys s ≡ true → (le : ℕ) (d : Bytes)
+    → s .job .kind ≡ 0 → length d ≤ 256 → Keeps J keys (give s le d)
+give-keeps J keys s g le d idle h =
+    give-walk (Keeps J keys) s le d (data-keeps g h)
+    (record { session = held-replaced keys s g idle d h; answer = more-fits {d = []} (omega arith) h })
 
 -- A waiting job.
 kind-waits : (kind : JobKind) → (eqb (kindNumber kind) 0 ≡ false) × (leb (kindNumber kind) 3 ≡ true)
@@ -95,9 +113,9 @@ unfolding goodJob
 waiting-good keys kind key le u h = simp (kind-waits kind .0, kind-waits kind .1, u, le-leb le 256 h)
 
 -- A job is handed out where nothing is held and there is no chain.
-pub handOut-keeps : (c : Card) (s : Session) → goodReferences (c .keys) (c .references) ≡ true → goodSession (c .keys) s ≡ true
-    → s .held .len ≡ 0 → s .chain .len ≡ 0 → (kind : JobKind) (le : ℕ) (block : Bytes) → le ≤ 256 → length block ≡ 256
-    → Keeps (c .keys) (handOut s kind (keyFor c s (kindNumber kind)) le block)
-handOut-keeps c s r g held chain kind le block h size =
-    let own = key-usable c s r (environment-good (c .keys) s g) kind in
-    record { session = job-replaced (c .keys) s g held chain _ (waiting-good (c .keys) kind _ le own h); answer = size }
+pub handOut-keeps : {J : ℕ → Bytes → Type 0} (keys : List Bool) (references : Bytes) (s : Session) → goodReferences keys references ≡ true
+    → goodSession keys s ≡ true → s .held .len ≡ 0 → s .chain .len ≡ 0 → (kind : JobKind) (le : ℕ) (block : Bytes) → le ≤ 256
+    → J (kindNumber kind) block → Keeps J keys (handOut s (kindNumber kind) (jobKey references s (kindNumber kind)) le block)
+handOut-keeps keys references s r g held chain kind le block h own =
+    let usable = key-usable keys references (s .environment) r (environment-good keys s g) kind in
+    record { session = job-replaced keys s g held chain _ (waiting-good keys kind _ le usable h); answer = own }

@@ -9,13 +9,15 @@ use lib.Dec.{eqb, leb, ltb}
 use lib.ListN.{length, getD, set, take, drop, length-take, List·getD-eq-default}
 use lib.Seq.{getD-set-same, getD-set-other}
 use borrow.Author.Tests.{eqb-true, leb-true, ltb-true, ltb-false, eq-eqb, le-leb}
-use Rattle.octets.specs.Octets.{Bytes, allDigits, allZero, filled}
+use Rattle.octets.specs.Octets.{Bytes, allDigits, allZero, filled, goodRoom}
 use Rattle.octets.proofs.Tests.{split, by-test, and-left, and-right, nth, below-three}
 use Rattle.octets.proofs.Strings.{length-filled, take-filled, rest-filled}
 use Rattle.rules.specs.declared.Card.{Card}
 use Rattle.rules.specs.declared.Code.{Code}
-use Rattle.rules.specs.Codes.{PUK, PIN1, PIN2, least, most, fullTries, allowed, value, storing, marked, zeroCode, codeOf}
-use Rattle.rules.specs.State.{goodRoom, goodCode, goodReferences, goodRecords, goodSession, good}
+use Rattle.rules.specs.Codes.{PUK, PIN1, PIN2, least, most, fullTries, allowed, value, storing, marked, zeroCode}
+use Rattle.rules.specs.Codes.{codeOf}
+use Rattle.rules.specs.declared.Profile.{Profile}
+use Rattle.rules.specs.State.{goodCode, goodCodes, goodReferences, goodRecords, goodProfile, goodSession, good}
 
 -- A string in room of a stated size.
 module _ (size : ℕ) (bytes : Bytes) (len : ℕ) (g : goodRoom size bytes len ≡ true) where
@@ -94,39 +96,54 @@ stored-good k d a =
     let digits : allDigits d ≡ true = and-right (leb (least k) (length d) && leb (length d) most) (allDigits d) a in
     simp (filled-room 12 d most-12, take-filled 12 d most-12, and-left (leb (least k) (length d)) (leb (length d) most) first, digits)
 
+-- Good codes.
+module _ (codes : List Code) (g : goodCodes codes ≡ true) where
+  abbrev codes-tests : List Bool
+  codes-tests = goodCode PUK (codeOf codes PUK) ∷ goodCode PIN1 (codeOf codes PIN1) ∷ goodCode PIN2 (codeOf codes PIN2) ∷ []
+
+  pub good-code : (k : ℕ) → k < 3 → goodCode k (codeOf codes k) ≡ true
+  unfolding goodCodes
+  good-code = below-three (λ k. goodCode k (codeOf codes k) ≡ true) (nth codes-tests 0 g) (nth codes-tests 1 g) (nth codes-tests 2 g)
+
+pub codes-good : (codes : List Code) → ((k : ℕ) → k < 3 → goodCode k (codeOf codes k) ≡ true) → goodCodes codes ≡ true
+unfolding goodCodes
+codes-good codes each = simp (each 0 (omega arith), each 1 (omega arith), each 2 (omega arith))
+
+-- A good profile.
+module _ (p : Profile) (g : goodProfile p ≡ true) where
+  abbrev profile-tests : List Bool
+  profile-tests = goodReferences (p .keys) (p .references) ∷ goodRecords 16 (p .personal) ∷ []
+
+  pub good-references : goodReferences (p .keys) (p .references) ≡ true
+  unfolding goodProfile
+  good-references = nth profile-tests 0 g
+
+  pub good-records : goodRecords 16 (p .personal) ≡ true
+  unfolding goodProfile
+  good-records = nth profile-tests 1 g
+
 -- A good card's parts.
 module _ (c : Card) (g : good c ≡ true) where
   abbrev card-tests : List Bool
-  card-tests =
-      goodCode PUK (codeOf c PUK)
-      ∷ goodCode PIN1 (codeOf c PIN1)
-      ∷ goodCode PIN2 (codeOf c PIN2)
-      ∷ goodReferences (c .keys) (c .references)
-      ∷ goodRecords 16 (c .personal)
-      ∷ goodSession (c .keys) (c .session)
-      ∷ []
+  card-tests = goodCodes (c .codes) ∷ goodProfile (c .profile) ∷ goodSession (c .profile .keys) (c .session) ∷ []
 
-  pub good-code : (k : ℕ) → k < 3 → goodCode k (codeOf c k) ≡ true
+  pub good-codes : goodCodes (c .codes) ≡ true
   unfolding good
-  good-code = below-three (λ k. goodCode k (codeOf c k) ≡ true) (nth card-tests 0 g) (nth card-tests 1 g) (nth card-tests 2 g)
+  good-codes = nth card-tests 0 g
 
-  pub good-references : goodReferences (c .keys) (c .references) ≡ true
+  pub good-profile : goodProfile (c .profile) ≡ true
   unfolding good
-  good-references = nth card-tests 3 g
+  good-profile = nth card-tests 1 g
 
-  pub good-records : goodRecords 16 (c .personal) ≡ true
+  pub good-session : goodSession (c .profile .keys) (c .session) ≡ true
   unfolding good
-  good-records = nth card-tests 4 g
-
-  pub good-session : goodSession (c .keys) (c .session) ≡ true
-  unfolding good
-  good-session = nth card-tests 5 g
+  good-session = nth card-tests 2 g
 
 -- A good card made of good parts.
-pub good-card : (c : Card) → ((k : ℕ) → k < 3 → goodCode k (codeOf c k) ≡ true) → goodReferences (c .keys) (c .references) ≡ true
-    → goodRecords 16 (c .personal) ≡ true → goodSession (c .keys) (c .session) ≡ true → good c ≡ true
+pub good-card : (c : Card) → goodCodes (c .codes) ≡ true → goodProfile (c .profile) ≡ true → goodSession (c .profile .keys) (c .session) ≡ true
+    → good c ≡ true
 unfolding good
-good-card c codes references records session = simp (codes 0 (omega arith), codes 1 (omega arith), codes 2 (omega arith), references, records, session)
+good-card c codes profile session = simp (codes, profile, session)
 
 -- Where a good code stands, there is a place.
 pub code-in : (l : List Code) (k : ℕ) → goodCode k (getD l k zeroCode) ≡ true → k < length l
@@ -135,9 +152,9 @@ code-in l k g = by-test _ (ltb k (length l))
     (λ e. let h : goodCode k zeroCode ≡ true = rw (List·getD-eq-default l zeroCode (ltb-false k (length l) e)) at g in
     absurd (omega (arith, least-some k, code-least k zeroCode h)))
 
--- Each code of a good card has a place.
-pub code-place : (c : Card) → good c ≡ true → (k : ℕ) → k < 3 → k < length (c .codes)
-code-place c g k h = code-in (c .codes) k (good-code c g k h)
+-- Each of good codes has a place.
+pub code-place : (codes : List Code) → goodCodes codes ≡ true → (k : ℕ) → k < 3 → k < length codes
+code-place codes g k h = code-in codes k (good-code codes g k h)
 
 -- Codes read back after one was replaced.
 module _ (l : List Code) (j : ℕ) (v : Code) (h : j < length l) where

@@ -8,10 +8,12 @@ use lib.Dec.{eqb}
 use Rattle.octets.specs.Octets.{Bytes}
 use Rattle.octets.proofs.Tests.{and-left}
 use Rattle.rules.specs.declared.Card.{Card}
-use Rattle.rules.specs.declared.Reply.{Reply}
-use Rattle.rules.specs.declared.Reply.the-variants.{Refused, Response, HandedOut, WasReset}
+use Rattle.rules.specs.Numbers.{Returned, edge, responded, handedOut, wasReset}
 use Rattle.rules.specs.Codes.{PIN2, codeOf}
-use Rattle.rules.specs.Counting.{Call, Exchange, next, exchange, after, trace, replyStatus, replyKind, byCommand, okStatus, wrongAnswer, restoration, unblocking, rightVerify, handsSignature, one, wrongAnswers, restorations, unblockings, signatures, pin2Presentations}
+use Rattle.rules.specs.Counting.{Call, Exchange, next, exchange, after, trace, returnedStatus, returnedKind}
+use Rattle.rules.specs.Counting.{byCommand, okStatus, wrongAnswer, restoration, unblocking, rightVerify}
+use Rattle.rules.specs.Counting.{handsSignature, one, wrongAnswers, restorations, unblockings, signatures}
+use Rattle.rules.specs.Counting.{pin2Presentations}
 use Rattle.rules.specs.CodeSheet.{opens, closes}
 use Rattle.rules.proofs.Sheet.{code-sheet}
 
@@ -35,48 +37,48 @@ mark-step false false true before after e on closing unopened = omega (arith, ap
 mark-step false false false before after e on closing unopened = omega (arith, ap one e)
 
 -- A job is no response.
-job-status : (r : Reply) (w : Bytes) → eqb (replyKind r) 2 ≡ true → okStatus (replyStatus r w) ≡ false
-unfolding replyKind replyStatus okStatus
-job-status (Refused r) w e = absurd (false≢true e)
-job-status (Response n) w e = absurd (false≢true e)
-job-status (HandedOut kind key) w e = refl
-job-status WasReset w e = absurd (false≢true e)
+job-status : (r : Returned) (w : Bytes) → eqb (returnedKind r) 2 ≡ true → okStatus (returnedStatus r w) ≡ false
+unfolding returnedKind returnedStatus okStatus
+job-status (edge n) w e = absurd (false≢true e)
+job-status (responded n) w e = absurd (false≢true e)
+job-status (handedOut kind key) w e = refl
+job-status wasReset w e = absurd (false≢true e)
 
 module _ (e : Exchange) (s : handsSignature e ≡ true) where
   signature-opens : opens PIN2 e ≡ false
   unfolding opens
-  signature-opens = rw (job-status (e .reply) (e .buffer) (and-left _ (byCommand (e .call)) s))
+  signature-opens = rw (job-status (e .returned) (e .buffer) (and-left _ (byCommand (e .call)) s))
 
   signature-closes : closes PIN2 e ≡ true
   unfolding closes
   signature-closes = simp (s, or-true)
 
 module _ (k : ℕ) (h3 : k < 3) where
-  tries-moved : (c : Card) (x : Call) → one (wrongAnswer k (exchange c x)) + codeOf (next c x) k .tries
-      ≤ codeOf c k .tries + 2 * one (restoration k (exchange c x)) + 3 * one (unblocking k (exchange c x))
-  tries-moved c x = let s = code-sheet k h3 c x in tries-step _ _ _ _ _ (s .tries) (s .judged) (s .restored)
+  tries-moved : (c : Card) (x : Call) → one (wrongAnswer k (exchange c x)) + codeOf (next c x .codes) k .tries
+      ≤ codeOf (c .codes) k .tries + 2 * one (restoration k (exchange c x)) + 3 * one (unblocking k (exchange c x))
+  tries-moved c x = let s = code-sheet k h3 c x in tries-step _ _ _ _ _ (s .tries) (s .hadTries) (s .restored)
 
-  tries-run : (c : Card) (xs : List Call) → wrongAnswers k (trace c xs) + codeOf (after c xs) k .tries
-      ≤ codeOf c k .tries + 2 * restorations k (trace c xs) + 3 * unblockings k (trace c xs)
+  tries-run : (c : Card) (xs : List Call) → wrongAnswers k (trace c xs) + codeOf (after c xs .codes) k .tries
+      ≤ codeOf (c .codes) k .tries + 2 * restorations k (trace c xs) + 3 * unblockings k (trace c xs)
   tries-run c [] = omega arith
   tries-run c (x ∷ xs) = omega (arith, tries-run (next c x) xs, tries-moved c x)
 
   -- wrong answers are at most the tries before + 2 times restorations + 3 times unblockings
-  pub wrong-bound : (c : Card) (xs : List Call) → wrongAnswers k (trace c xs) ≤ codeOf c k .tries + 2 * restorations k (trace c xs) + 3 * unblockings k (trace c xs)
+  pub wrong-bound : (c : Card) (xs : List Call) → wrongAnswers k (trace c xs) ≤ codeOf (c .codes) k .tries + 2 * restorations k (trace c xs) + 3 * unblockings k (trace c xs)
   wrong-bound c xs = omega (arith, tries-run c xs)
 
-mark-moved : (c : Card) (x : Call) → one (handsSignature (exchange c x)) + one (codeOf (next c x) PIN2 .verified)
-    ≤ one (codeOf c PIN2 .verified) + one (rightVerify PIN2 (exchange c x))
+mark-moved : (c : Card) (x : Call) → one (handsSignature (exchange c x)) + one (codeOf (next c x .codes) PIN2 .verified)
+    ≤ one (codeOf (c .codes) PIN2 .verified) + one (rightVerify PIN2 (exchange c x))
 unfolding opens
 mark-moved c x =
     let s = code-sheet PIN2 (omega arith) c x in
     let e : Exchange = exchange c x in
-    mark-step (handsSignature e) (opens PIN2 e) (closes PIN2 e) (codeOf c PIN2 .verified) (codeOf (next c x) PIN2 .verified) (s .verified) (s .signed) (signature-closes e) (signature-opens e)
+    mark-step (handsSignature e) (opens PIN2 e) (closes PIN2 e) (codeOf (c .codes) PIN2 .verified) (codeOf (next c x .codes) PIN2 .verified) (s .verified) (s .signed) (signature-closes e) (signature-opens e)
 
-mark-run : (c : Card) (xs : List Call) → signatures (trace c xs) + one (codeOf (after c xs) PIN2 .verified) ≤ one (codeOf c PIN2 .verified) + pin2Presentations (trace c xs)
+mark-run : (c : Card) (xs : List Call) → signatures (trace c xs) + one (codeOf (after c xs .codes) PIN2 .verified) ≤ one (codeOf (c .codes) PIN2 .verified) + pin2Presentations (trace c xs)
 mark-run c [] = omega arith
 mark-run c (x ∷ xs) = omega (arith, mark-run (next c x) xs, mark-moved c x)
 
 -- signatures are at most right presentations of PIN2, from a card on which PIN2 is not verified
-pub signature-bound : (c : Card) (xs : List Call) → codeOf c PIN2 .verified ≡ false → signatures (trace c xs) ≤ pin2Presentations (trace c xs)
+pub signature-bound : (c : Card) (xs : List Call) → codeOf (c .codes) PIN2 .verified ≡ false → signatures (trace c xs) ≤ pin2Presentations (trace c xs)
 signature-bound c xs m = omega (arith, mark-run c xs, ap one m)

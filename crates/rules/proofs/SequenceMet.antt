@@ -16,18 +16,24 @@ use Rattle.octets.proofs.Words.{digits-bytes, unlike-length}
 use Rattle.rules.specs.declared.Card.{Card}
 use Rattle.rules.specs.declared.Code.{Code}
 use Rattle.rules.specs.declared.Header.{Header}
-use Rattle.rules.specs.declared.Parsed.the-variants.{Form}
+use Rattle.rules.specs.Numbers.{form}
 use Rattle.rules.specs.Codes.{PUK, fullTries, value, marked, codeOf, withCode, closed}
+use Rattle.rules.specs.Session.{dropBoth}
 use Rattle.rules.specs.State.{goodCode, good}
-use Rattle.rules.specs.Apdu.{parse, dataOf}
-use Rattle.rules.specs.Answers.{response, status}
-use Rattle.rules.specs.CodeCommands.{judged, verify, unblockByVerifiedPuk, resetRetry}
-use Rattle.rules.specs.Judgement.{goodParameters, goodLengths, dropPending, ownRules, judgeHeader, judgeForm, judge}
+use Rattle.rules.specs.Apdu.{dataStart, parse, dataOf}
+use Rattle.rules.specs.Answers.{response, codeStatus, inCodes}
+use Rattle.rules.specs.CodeCommands.{verdict, judged, verify, unblockByVerifiedPuk, resetRetry}
+use Rattle.rules.specs.Judgement.{instruction, parameters, lengths, ownRules, knownInstruction, namedIn}
+use Rattle.rules.specs.Judgement.{judgeNamed, judgeHeader, judgeForm, judge}
 use Rattle.rules.specs.Edge.{written, shortBuffer, command}
-use Rattle.rules.specs.Counting.{Call, Command, Exchange, step, next, exchange, after, trace, replyStatus, formIs, isCommand, wrongStatus, okStatus, verifies, changes, presentsPuk, unblocks, presents, answers, wrongAnswer, restoration, unblocking, one, number, ofBytes, allOfBytes}
+use Rattle.rules.specs.Counting.{Call, Command, Exchange, step, next, exchange, after, trace, returnedStatus}
+use Rattle.rules.specs.Counting.{formSends, sentBy, readOff, wrongStatus, okStatus, verifies, changes, presentsPuk}
+use Rattle.rules.specs.Counting.{unblocks, presents, answers, wrongAnswer, restoration, unblocking, one, number}
+use Rattle.rules.specs.Counting.{ofBytes, allOfBytes}
 use Rattle.rules.specs.Demands.{Reached}
 use Rattle.rules.proofs.StatusWords.{status-read, wrong-status, wrong-not-ok}
-use Rattle.rules.proofs.Parts.{code-most, code-least, code-digits, code-tries, code-length, least-some, good-code, code-place, code-same, code-other}
+use Rattle.rules.proofs.Parts.{code-most, code-least, code-digits, code-tries, code-length, least-some, good-code}
+use Rattle.rules.proofs.Parts.{good-codes, code-place, code-same, code-other}
 
 -- A sequence made of two.
 after-append : (c : Card) (xs ys : List Call) → after c (xs ++ ys) ≡ after (after c xs) ys
@@ -76,7 +82,14 @@ recount : {k : ℕ} {c : Card} {P : Card → Type 0} {r u w r′ u′ w′ : ℕ
 recount restored unblocked wrong p =
     let x = p .reached in
     record {
-      reached = record { calls = x .calls; ofBytes = x .ofBytes; restored = x .restored ∙ restored; unblocked = x .unblocked ∙ unblocked; wrong = x .wrong ∙ wrong };
+      reached =
+          record {
+            calls = x .calls;
+            ofBytes = x .ofBytes;
+            restored = x .restored ∙ restored;
+            unblocked = x .unblocked ∙ unblocked;
+            wrong = x .wrong ∙ wrong;
+          };
       leads = p .leads;
     }
 
@@ -98,6 +111,10 @@ buffer-taken : shortBuffer buffer ≡ false
 unfolding buffer
 buffer-taken = refl
 
+-- The card after a command that gave it other codes.
+abbrev withCodes : Card → List Code → Card
+withCodes c codes = record { codes = codes; profile = c .profile; session = dropBoth (c .session) }
+
 -- A VERIFY of code j with the data d.
 abbrev verifyApdu : ℕ → Bytes → Bytes
 verifyApdu j d = 0x00 ∷ 0x20 ∷ 0x00 ∷ j ∷ length d ∷ d
@@ -105,12 +122,12 @@ verifyApdu j d = 0x00 ∷ 0x20 ∷ 0x00 ∷ j ∷ length d ∷ d
 abbrev verifyHeader : ℕ → Bytes → Header
 verifyHeader j d = record { cla = 0x00; ins = 0x20; p1 = 0x00; p2 = j; lc = length d; le = 0 }
 
--- The card after it, where the data are the right value.
-abbrev afterVerify : Card → ℕ → Card
-afterVerify c j = withCode (dropPending c) j (marked (codeOf c j) fullTries true)
+-- The codes after it, where the data are the right value.
+abbrev afterVerify : List Code → ℕ → List Code
+afterVerify codes j = withCode codes j (marked (codeOf codes j) fullTries true)
 
 module _ (j : ℕ) (d : Bytes) (some : 1 ≤ length d) where
-  verify-form : parse (verifyApdu j d) ≡ Form (verifyHeader j d)
+  verify-form : parse (verifyApdu j d) ≡ form (verifyHeader j d) dataStart
   unfolding parse
   verify-form =
       simp (
@@ -120,9 +137,9 @@ module _ (j : ℕ) (d : Bytes) (some : 1 ≤ length d) where
         eq-eqb (length (verifyApdu j d)) (5 + length d) (omega arith),
       )
 
-  verify-judged : (c : Card) → j < 3 → judgeHeader c (verifyHeader j d) (dataOf (verifyApdu j d) (verifyHeader j d)) certificate certificate
-      ≡ judged (dropPending c) j d (status (afterVerify c j) 0x9000)
-  unfolding judgeHeader goodParameters goodLengths ownRules verify dataOf
+  verify-judged : (c : Card) → j < 3 → judgeHeader c (verifyHeader j d) (dataOf (verifyApdu j d) dataStart (verifyHeader j d)) certificate certificate
+      ≡ inCodes (dropBoth (c .session)) (judged (c .codes) j (verdict (codeOf (c .codes) j) d))
+  unfolding judgeHeader knownInstruction instruction namedIn parameters judgeNamed lengths ownRules verify
   verify-judged c h = simp (le-leb j 2 (omega arith), le-leb 1 (length d) some, take-length d)
 
   verify-bytes : j < 3 → length d ≤ 12 → allBytes d ≡ true → allBytes (verifyApdu j d) ≡ true
@@ -144,18 +161,20 @@ unblockApdu k = 0x00 ∷ 0x2C ∷ 0x03 ∷ k ∷ []
 abbrev unblockHeader : ℕ → Header
 unblockHeader k = record { cla = 0x00; ins = 0x2C; p1 = 0x03; p2 = k; lc = 0; le = 0 }
 
-unblock-form : (k : ℕ) → parse (unblockApdu k) ≡ Form (unblockHeader k)
+unblock-form : (k : ℕ) → parse (unblockApdu k) ≡ form (unblockHeader k) dataStart
 unfolding parse
 unblock-form k = refl
 
--- The card after it.
-abbrev afterUnblock : Card → ℕ → Card
-afterUnblock c k = closed (withCode c k (marked (codeOf c k) fullTries false)) PUK
+-- The codes after it.
+abbrev afterUnblock : List Code → ℕ → List Code
+afterUnblock codes k = closed (withCode codes k (marked (codeOf codes k) fullTries false)) PUK
 
-unblock-judged : (k : ℕ) (c : Card) → 1 ≤ k → k < 3 → codeOf c k .tries ≡ 0 → codeOf c PUK .verified ≡ true
-    → judgeHeader c (unblockHeader k) (dataOf (unblockApdu k) (unblockHeader k)) certificate certificate ≡ status (afterUnblock (dropPending c) k) 0x9000
-unfolding judgeHeader goodParameters goodLengths ownRules resetRetry unblockByVerifiedPuk
-unblock-judged k c low high none verified = simp (le-leb 1 k low, le-leb k 2 (omega arith), eq-eqb (codeOf c k .tries) 0 none, verified)
+unblock-judged : (k : ℕ) (c : Card) → 1 ≤ k → k < 3 → codeOf (c .codes) k .tries ≡ 0 → codeOf (c .codes) PUK .verified ≡ true
+    → judgeHeader c (unblockHeader k) (dataOf (unblockApdu k) dataStart (unblockHeader k)) certificate certificate
+    ≡ inCodes (dropBoth (c .session)) (codeStatus (afterUnblock (c .codes) k) 0x9000)
+unfolding judgeHeader knownInstruction instruction namedIn parameters judgeNamed lengths ownRules resetRetry unblockByVerifiedPuk
+unblock-judged k c low high none verified =
+    simp (le-leb 1 k low, le-leb k 2 (omega arith), eq-eqb (codeOf (c .codes) k .tries) 0 none, verified)
 
 unblock-no-presentation : (k : ℕ) → presents k (unblockHeader k) ≡ false
 unfolding presents verifies changes presentsPuk
@@ -174,63 +193,67 @@ module _ (k : ℕ) (v : Code) (g : goodCode k v ≡ true) where
   value-most = omega (arith, code-length k v g, code-most k v g)
 
 -- The tries left after one code was replaced.
-module _ (c : Card) (j : ℕ) (v : Code) (place : j < length (c .codes)) where
-  tries-same : codeOf (withCode c j v) j .tries ≡ v .tries
-  tries-same = ap (λ (v : Code). v .tries) (code-same (c .codes) j v place)
+module _ (codes : List Code) (j : ℕ) (v : Code) (place : j < length codes) where
+  tries-same : codeOf (withCode codes j v) j .tries ≡ v .tries
+  tries-same = ap (λ (v : Code). v .tries) (code-same codes j v place)
 
-  tries-other : (k : ℕ) → k ≢ j → codeOf (withCode c j v) k .tries ≡ codeOf c k .tries
-  tries-other k n = ap (λ (v : Code). v .tries) (code-other (c .codes) j v place k n)
+  tries-other : (k : ℕ) → k ≢ j → codeOf (withCode codes j v) k .tries ≡ codeOf codes k .tries
+  tries-other k n = ap (λ (v : Code). v .tries) (code-other codes j v place k n)
 
 -- A good card without a job, on which code k and PUK have three tries.
 pub record Ready (k : ℕ) (c : Card) : Type 0 where
   pub isGood : good c ≡ true
   pub noJob : c .session .job .kind ≡ 0
-  pub left : codeOf c k .tries ≡ 3
-  pub puk : codeOf c PUK .tries ≡ 3
+  pub left : codeOf (c .codes) k .tries ≡ 3
+  pub puk : codeOf (c .codes) PUK .tries ≡ 3
 
 -- A good card without a job, on which code k has n tries left, and PUK three where it is another code.
 record TriesLeft (k n : ℕ) (c : Card) : Type 0 where
   isGood : good c ≡ true
   noJob : c .session .job .kind ≡ 0
-  left : codeOf c k .tries ≡ n
-  puk : PUK ≢ k → codeOf c PUK .tries ≡ 3
+  left : codeOf (c .codes) k .tries ≡ n
+  puk : PUK ≢ k → codeOf (c .codes) PUK .tries ≡ 3
 
 -- Such a card, of which code k was replaced by one of m tries.
 replaced : (k n m : ℕ) (c : Card) (v : Code) → TriesLeft k n c → k < length (c .codes) → v .tries ≡ m
-    → good (withCode (dropPending c) k v) ≡ true → TriesLeft k m (withCode (dropPending c) k v)
+    → good (withCodes c (withCode (c .codes) k v)) ≡ true → TriesLeft k m (withCodes c (withCode (c .codes) k v))
 replaced k n m c v before place e g =
     record {
       isGood = g;
       noJob = before .noJob;
-      left = tries-same c k v place ∙ e;
-      puk = λ other. tries-other c k v place PUK other ∙ before .puk other;
+      left = tries-same (c .codes) k v place ∙ e;
+      puk = λ other. tries-other (c .codes) k v place PUK other ∙ before .puk other;
     }
 
 -- A card on which code k has no tries left, and PUK is verified.
 record PukVerified (k : ℕ) (c : Card) : Type 0 where
   blocked : TriesLeft k 0 c
-  shown : codeOf c PUK .verified ≡ true
+  shown : codeOf (c .codes) PUK .verified ≡ true
 
 -- Let calls of bytes keep a card good.
 module _ (kept : (c : Card) (x : Call) → ofBytes x ≡ true → good c ≡ true → good (next c x) ≡ true) where
-  -- A command with header h, which a good card without a job answers by a status word, and so goes over to the card d.
-  module _ (c d : Card) (apdu : Bytes) (h : Header) (sw : ℕ) (isGood : good c ≡ true) (noJob : c .session .job .kind ≡ 0)
-      (form : parse apdu ≡ Form h) (judgement : judgeHeader c h (dataOf apdu h) certificate certificate ≡ status d sw) where
+  -- A command with header h, which a good card without a job answers by a status word, and so gets other codes.
+  module _ (c : Card) (codes : List Code) (apdu : Bytes) (h : Header) (start sw : ℕ) (isGood : good c ≡ true) (noJob : c .session .job .kind ≡ 0)
+      (formed : parse apdu ≡ form h start)
+      (judgement : judgeHeader c h (dataOf apdu start h) certificate certificate ≡ inCodes (dropBoth (c .session)) (codeStatus codes sw)) where
+    abbrev d : Card
+    d = withCodes c codes
+
     gives : step c (sent apdu) ≡ written buffer d (response [] sw)
     unfolding step command judge judgeForm
-    gives = simp (isGood, buffer-taken, eq-eqb (c .session .job .kind) 0 noJob, form, judgement)
+    gives = simp (isGood, buffer-taken, eq-eqb (c .session .job .kind) 0 noJob, formed, judgement)
 
     leads-to : next c (sent apdu) ≡ d
     unfolding written
     leads-to = rw (gives, next)
 
-    reads : replyStatus (step c (sent apdu) .0 .reply) (step c (sent apdu) .1) ≡ sw
+    reads : returnedStatus (step c (sent apdu) .returned) (step c (sent apdu) .buffer) ≡ sw
     unfolding written
     reads = rw gives (status-read buffer sw)
 
     counts : (statusTest : ℕ → Bool) (test : Header → Bool) → answers statusTest test (exchange c (sent apdu)) ≡ (statusTest sw && test h)
-    unfolding isCommand formIs
-    counts statusTest test = rw (reads, form)
+    unfolding sentBy formSends readOff
+    counts statusTest test = rw (reads, formed)
 
     one-call : (k : ℕ) {P : Card → Type 0} → allBytes apdu ≡ true → (good d ≡ true → P d)
         → Run k c P (one (okStatus sw && presents k h)) (one (okStatus sw && unblocks k h)) (one (wrongStatus sw && presents k h))
@@ -248,26 +271,27 @@ module _ (kept : (c : Card) (x : Call) → ofBytes x ≡ true → good c ≡ tru
         }
 
   -- A VERIFY of code j with some digits, which is answered by a status word.
-  verify-call : (j k : ℕ) (c d : Card) (v : Bytes) (sw : ℕ) {P : Card → Type 0}
+  verify-call : (j k : ℕ) (c : Card) (codes : List Code) (v : Bytes) (sw : ℕ) {P : Card → Type 0}
       → j < 3 → 1 ≤ length v → length v ≤ 12 → allDigits v ≡ true → good c ≡ true → c .session .job .kind ≡ 0
-      → judged (dropPending c) j v (status (afterVerify c j) 0x9000) ≡ status d sw → (good d ≡ true → P d)
+      → judged (c .codes) j (verdict (codeOf (c .codes) j) v) ≡ codeStatus codes sw → (good (withCodes c codes) ≡ true → P (withCodes c codes))
       → Run k c P (one (okStatus sw && eqb j k)) 0 (one (wrongStatus sw && eqb j k))
-  verify-call j k c d v sw h some short digits isGood noJob judgement p =
+  verify-call j k c codes v sw h some short digits isGood noJob judgement p =
       recount
       (rw (verify-presents j v some k))
       (rw (verify-no-unblocking j v some k, and-false))
       (rw (verify-presents j v some k))
-      (one-call c d (verifyApdu j v) (verifyHeader j v) sw isGood noJob (verify-form j v some) (verify-judged j v some c h ∙ judgement)
+      (one-call c codes (verifyApdu j v) (verifyHeader j v) dataStart sw isGood noJob (verify-form j v some)
+      (verify-judged j v some c h ∙ ap (inCodes (dropBoth (c .session))) judgement)
       k (verify-bytes j v some h short (digits-bytes v digits)) p)
 
   -- The right value of code j.
-  right-value : (j k : ℕ) (c : Card) {P : Card → Type 0} → j < 3 → good c ≡ true → c .session .job .kind ≡ 0 → 1 ≤ codeOf c j .tries
-      → (good (afterVerify c j) ≡ true → P (afterVerify c j)) → Run k c P (one (eqb j k)) 0 0
-  unfolding judged okStatus wrongStatus
+  right-value : (j k : ℕ) (c : Card) {P : Card → Type 0} → j < 3 → good c ≡ true → c .session .job .kind ≡ 0 → 1 ≤ codeOf (c .codes) j .tries
+      → (good (withCodes c (afterVerify (c .codes) j)) ≡ true → P (withCodes c (afterVerify (c .codes) j))) → Run k c P (one (eqb j k)) 0 0
+  unfolding verdict judged okStatus wrongStatus
   right-value j k c h isGood noJob tries p =
-      let v = codeOf c j in
-      let g : goodCode j v ≡ true = good-code c isGood j h in
-      verify-call j k c (afterVerify c j) (value v) 0x9000 h
+      let v = codeOf (c .codes) j in
+      let g : goodCode j v ≡ true = good-code (c .codes) (good-codes c isGood) j h in
+      verify-call j k c (afterVerify (c .codes) j) (value v) 0x9000 h
       (omega (arith, value-least j v g))
       (value-most j v g)
       (code-digits j v g)
@@ -279,31 +303,31 @@ module _ (kept : (c : Card) (x : Call) → ofBytes x ≡ true → good c ≡ tru
   module _ (k : ℕ) (h : k < 3) where
     -- A wrong value of code k: one digit.
     wrong-value : (n : ℕ) (c : Card) → TriesLeft k (suc n) c → Run k c (TriesLeft k n) 0 0 1
-    unfolding judged
+    unfolding verdict judged
     wrong-value n c before =
-        let v = codeOf c k in
-        let g : goodCode k v ≡ true = good-code c (before .isGood) k h in
+        let v = codeOf (c .codes) k in
+        let g : goodCode k v ≡ true = good-code (c .codes) (good-codes c (before .isGood)) k h in
         let few : v .tries - 1 ≤ 15 = omega (arith, code-tries k v g) in
         let less : Code = marked v (v .tries - 1) false in
         recount
         (rw (wrong-not-ok (v .tries - 1) few))
         refl
         (rw (wrong-status (v .tries - 1) few, eq-eqb k k refl))
-        (verify-call k k c (withCode (dropPending c) k less) (0x30 ∷ []) (0x63C0 + (v .tries - 1)) h
+        (verify-call k k c (withCode (c .codes) k less) (0x30 ∷ []) (0x63C0 + (v .tries - 1)) h
         (omega arith)
         (omega arith)
         refl
         (before .isGood)
         (before .noJob)
         (simp (ne-eqb (v .tries) 0 (omega (arith, before .left)), unlike-length (0x30 ∷ []) (value v) (omega (arith, value-least k v g))))
-        (replaced k (suc n) n c less before (code-place c (before .isGood) k h) (omega (arith, before .left))))
+        (replaced k (suc n) n c less before (code-place (c .codes) (good-codes c (before .isGood)) k h) (omega (arith, before .left))))
 
     -- The right value of code k.
     restore : (n : ℕ) (c : Card) → TriesLeft k (suc n) c → Run k c (TriesLeft k 3) 1 0 0
     restore n c before =
         recount (rw (eq-eqb k k refl)) refl refl
         (right-value k k c h (before .isGood) (before .noJob) (omega (arith, before .left))
-        (replaced k (suc n) 3 c (marked (codeOf c k) fullTries true) before (code-place c (before .isGood) k h) refl))
+        (replaced k (suc n) 3 c (marked (codeOf (c .codes) k) fullTries true) before (code-place (c .codes) (good-codes c (before .isGood)) k h) refl))
 
     two-wrong : (c : Card) → TriesLeft k 3 c → Run k c (TriesLeft k 1) 0 0 2
     two-wrong c before = then (wrong-value 2 c before) (wrong-value 1)
@@ -323,8 +347,8 @@ module _ (kept : (c : Card) (x : Call) → ofBytes x ≡ true → good c ≡ tru
       -- The right PUK.
       puk-value : (c : Card) → TriesLeft k 0 c → Run k c (PukVerified k) 0 0 0
       puk-value c before =
-          let place = code-place c (before .isGood) PUK (omega arith) in
-          let v : Code = marked (codeOf c PUK) fullTries true in
+          let place = code-place (c .codes) (good-codes c (before .isGood)) PUK (omega arith) in
+          let v : Code = marked (codeOf (c .codes) PUK) fullTries true in
           recount (rw (ne-eqb PUK k (omega arith))) refl refl
           (right-value PUK k c (omega arith) (before .isGood) (before .noJob) (omega (arith, before .puk (omega arith)))
           (λ g. record {
@@ -332,8 +356,8 @@ module _ (kept : (c : Card) (x : Call) → ofBytes x ≡ true → good c ≡ tru
                 record {
                   isGood = g;
                   noJob = before .noJob;
-                  left = tries-other c PUK v place k (omega arith) ∙ before .left;
-                  puk = λ other. tries-same c PUK v place;
+                  left = tries-other (c .codes) PUK v place k (omega arith) ∙ before .left;
+                  puk = λ other. tries-same (c .codes) PUK v place;
                 };
             shown = ap (λ (v : Code). v .verified) (code-same (c .codes) PUK v place);
           }))
@@ -343,16 +367,16 @@ module _ (kept : (c : Card) (x : Call) → ofBytes x ≡ true → good c ≡ tru
       unfolding okStatus wrongStatus
       unblock-call c opened =
           let before = opened .blocked in
-          let place = code-place c (before .isGood) in
-          let v : Code = marked (codeOf c k) fullTries false in
-          let c′ : Card = withCode (dropPending c) k v in
-          let v′ : Code = marked (codeOf c′ PUK) (codeOf c′ PUK .tries) false in
-          let place′ : PUK < length (c′ .codes) = omega (arith, length-set (c .codes) k v, place PUK (omega arith)) in
+          let place = code-place (c .codes) (good-codes c (before .isGood)) in
+          let v : Code = marked (codeOf (c .codes) k) fullTries false in
+          let first : List Code = withCode (c .codes) k v in
+          let shut : Code = marked (codeOf first PUK) (codeOf first PUK .tries) false in
+          let there : PUK < length first = omega (arith, length-set (c .codes) k v, place PUK (omega arith)) in
           recount
           (rw (unblock-no-presentation k))
           (rw (unblock-unblocks k pin))
           refl
-          (one-call c (afterUnblock (dropPending c) k) (unblockApdu k) (unblockHeader k) 0x9000 (before .isGood) (before .noJob)
+          (one-call c (afterUnblock (c .codes) k) (unblockApdu k) (unblockHeader k) dataStart 0x9000 (before .isGood) (before .noJob)
           (unblock-form k)
           (unblock-judged k c pin h (before .left) (opened .shown))
           k
@@ -360,8 +384,8 @@ module _ (kept : (c : Card) (x : Call) → ofBytes x ≡ true → good c ≡ tru
           (λ g. record {
             isGood = g;
             noJob = before .noJob;
-            left = tries-other c′ PUK v′ place′ k (omega arith) ∙ tries-same c k v (place k h);
-            puk = λ other. tries-same c′ PUK v′ place′ ∙ tries-other c k v (place k h) PUK other ∙ before .puk other;
+            left = tries-other first PUK shut there k (omega arith) ∙ tries-same (c .codes) k v (place k h);
+            puk = λ other. tries-same first PUK shut there ∙ tries-other (c .codes) k v (place k h) PUK other ∙ before .puk other;
           }))
 
       -- Three wrong values and an unblocking, u times.

@@ -6,20 +6,22 @@ use Prim.Native.Nat.{ℕ, suc, _≤_, _<_}
 use native.Mathlib.Omega.{arith}
 use lib.Dec.{eqb}
 use lib.ListN.{length, getD, set, length-set}
-use borrow.Author.Tests.{eqb-true}
+use borrow.Author.Tests.{eqb-true, le-leb}
 use Rattle.octets.specs.Octets.{Bytes}
 use Rattle.octets.proofs.Tests.{split, nth, below-three}
 use Rattle.octets.proofs.Buffers.{each-place}
-use Rattle.rules.specs.declared.Card.{Card}
 use Rattle.rules.specs.declared.Session.{Session}
 use Rattle.rules.specs.declared.Job.{Job}
 use Rattle.rules.specs.declared.Environment.{Environment}
 use Rattle.rules.specs.declared.JobKind.{JobKind}
 use Rattle.rules.specs.declared.JobKind.the-variants.{Authenticate, Sign, Decipher}
-use Rattle.rules.specs.Keys.{kindNumber, usable, ofClass, activeKey, choiceOf, keyFor}
-use Rattle.rules.specs.Session.{noJob, newSession, heldBytes, withSelection, withEnvironment, withHeld, withChain, withJob, withSession}
-use Rattle.rules.specs.State.{goodReferences, goodSelection, goodChoice, goodEnvironment, goodHeld, goodChain, goodJob, jobExcludes, goodSession, good}
-use Rattle.rules.proofs.Parts.{room-len, room-taken, filled-room, good-code, good-references, good-records, good-card}
+use Rattle.rules.specs.Numbers.{kindNumber}
+use Rattle.rules.specs.Keys.{usable, ofClass, activeKey, choiceOf, keyFor}
+use Rattle.rules.specs.Session.{noJob, newSession, heldBytes, withSelection, withEnvironment, withHeld, withChain}
+use Rattle.rules.specs.Session.{withJob}
+use Rattle.rules.specs.State.{goodReferences, goodSelection, goodChoice, goodEnvironment, goodHeld, goodChain}
+use Rattle.rules.specs.State.{goodJob, jobExcludes, goodSession}
+use Rattle.rules.proofs.Parts.{room-len, room-taken, filled-room}
 
 -- The key choice in place i of the three, which is that of job kind i + 1.
 abbrev GoodChoice : List Bool → ℕ → ℕ → Type 0
@@ -80,13 +82,14 @@ module _ (keys : List Bool) (references : Bytes) (g : goodReferences keys refere
   active-usable Decipher = nth references-tests 1 g
 
 -- The key that a job takes is usable for it.
-pub key-usable : (c : Card) (s : Session) → goodReferences (c .keys) (c .references) ≡ true → goodEnvironment (c .keys) (s .environment) ≡ true
-    → (kind : JobKind) → usable (c .keys) (kindNumber kind) (keyFor c s (kindNumber kind)) ≡ true
+pub key-usable : (keys : List Bool) (references : Bytes) (e : Environment) → goodReferences keys references ≡ true
+    → goodEnvironment keys e ≡ true → (kind : JobKind)
+    → usable keys (kindNumber kind) (keyFor references (e .choices) (kindNumber kind)) ≡ true
 unfolding keyFor
-key-usable c s r g kind =
-    split (λ key. usable (c .keys) (kindNumber kind) key ≡ true) (eqb (choiceOf (s .environment .choices) (kindNumber kind)) 0)
-    (λ e. active-usable (c .keys) (c .references) r kind)
-    (λ e. rw e at (kind-choice (c .keys) (s .environment) g kind))
+key-usable keys references e r g kind =
+    split (λ key. usable keys (kindNumber kind) key ≡ true) (eqb (choiceOf (e .choices) (kindNumber kind)) 0)
+    (λ z. active-usable keys references r kind)
+    (λ z. rw z at (kind-choice keys e g kind))
 
 -- A good session.
 module _ (keys : List Bool) (s : Session) (g : goodSession keys s ≡ true) where
@@ -148,7 +151,8 @@ module _ (keys : List Bool) (s : Session) (g : goodSession keys s ≡ true) wher
 
   pub chain-replaced : s .job .kind ≡ 0 → (d : Bytes) → length d ≤ 257 → goodSession keys (withChain s d) ≡ true
   unfolding goodSession
-  chain-replaced idle d h = simp (selection-good, environment-good, held-good, filled-room 257 d h, job-good, idle)
+  chain-replaced idle d h =
+      simp (selection-good, environment-good, held-good, le-leb (length d) 257 h, filled-room 258 d (omega arith), job-good, idle)
 
   -- a job may wait where nothing is held and there is no chain
   pub job-replaced : s .held .len ≡ 0 → s .chain .len ≡ 0 → (j : Job) → goodJob keys j ≡ true → goodSession keys (withJob s j) ≡ true
@@ -162,8 +166,4 @@ module _ (keys : List Bool) (s : Session) (g : goodSession keys s ≡ true) wher
 -- The session after load and power reset is good.
 pub new-session-good : (keys : List Bool) → goodSession keys newSession ≡ true
 unfolding goodSession newSession goodSelection goodEnvironment goodJob
-new-session-good keys = simp (filled-room 256 [] (omega arith), filled-room 257 [] (omega arith))
-
--- A good card with another good session.
-pub with-session-good : (c : Card) → good c ≡ true → (s : Session) → goodSession (c .keys) s ≡ true → good (withSession c s) ≡ true
-with-session-good c g s h = good-card (withSession c s) (good-code c g) (good-references c g) (good-records c g) h
+new-session-good keys = simp (filled-room 256 [] (omega arith), filled-room 258 [] (omega arith))

@@ -2,45 +2,59 @@
 use mathlib.Core.Path.{_≡_, refl, sym, ap, _∙_}
 use mathlib.Core.Logic.{_≢_}
 use mathlib.Core.Bool.{Bool, true, false, not, cond, _&&_, _||_, or-false, and-false, and-true, false≢true}
-use mathlib.Core.List.{[], _∷_, _++_}
+use mathlib.Core.List.{List, []}
 use Prim.Native.Nat.{ℕ, _+_, _-_, _≤_, _<_}
 use native.Mathlib.Omega.{arith}
 use lib.Dec.{eqb, leb, ltb}
-use lib.ListN.{length, take, drop, length-set}
-use borrow.Author.Tests.{eqb-true, eqb-false, eq-eqb, ne-eqb, leb-true, le-leb, lt-leb, not-false}
-use Rattle.octets.specs.Octets.{Bytes, byteAt, word, same, member}
-use Rattle.pkcs1.specs.Pkcs1.{padded}
-use Rattle.octets.proofs.Tests.{split, either, and-left, and-right, below-three}
+use lib.ListN.{length, drop, length-set}
+use borrow.Author.Tests.{eqb-true, eq-eqb, ne-eqb, le-leb, lt-leb, not-false}
+use Rattle.octets.specs.Octets.{Bytes, same}
+use Rattle.octets.proofs.Tests.{split, either, and-left, below-three}
 use Rattle.octets.proofs.Strings.{take-filled, same-equal}
 use Rattle.rules.specs.declared.Card.{Card}
 use Rattle.rules.specs.declared.Code.{Code}
+use Rattle.rules.specs.declared.CodeStep.{CodeStep}
+use Rattle.rules.specs.declared.Command.{Command as Instruction}
+use Rattle.rules.specs.declared.Command.the-variants.{Select, ReadRecord, ReadBinary, GetResponse, Verify, Change}
+use Rattle.rules.specs.declared.Command.the-variants.{ResetRetry, SetEnvironment, ChooseKey, InternalAuthenticate}
+use Rattle.rules.specs.declared.Command.the-variants.{ComputeSignature, Decipher}
 use Rattle.rules.specs.declared.Header.{Header}
-use Rattle.rules.specs.declared.Outcome.{Outcome}
-use Rattle.rules.specs.declared.Parsed.{Parsed}
-use Rattle.rules.specs.declared.Parsed.the-variants.{Form, Malformed}
-use Rattle.rules.specs.declared.JobKind.{JobKind}
-use Rattle.rules.specs.declared.JobKind.the-variants.{Sign}
+use Rattle.rules.specs.declared.Named.{Named}
+use Rattle.rules.specs.declared.Profile.{Profile}
 use Rattle.rules.specs.declared.Session.{Session}
-use Rattle.rules.specs.declared.Refusal.{Refusal}
-use Rattle.rules.specs.declared.Refusal.the-variants.{BadState, ShortBuffer, CertificateLength, JobWaiting, NoJobWaiting}
-use Rattle.rules.specs.Codes.{PUK, PIN1, PIN2, allowed, value, storing, marked, codeOf, withCode, closed}
+use Rattle.rules.specs.declared.Verdict.the-variants.{Right, Wrong}
+use Rattle.rules.specs.Numbers.{Returned, LengthForm, form, refused}
+use Rattle.rules.specs.Codes.{PUK, PIN1, PIN2, value, storing, marked, codeOf, withCode, closed}
 use Rattle.rules.specs.Apdu.{parse, dataOf}
-use Rattle.rules.specs.State.{good}
-use Rattle.rules.specs.Keys.{kindNumber, ofClass, present, keyFor}
-use Rattle.rules.specs.Session.{root, esteidDirectory, noFile, heldBytes, chainBytes, withSession}
-use Rattle.rules.specs.Files.{filesIn, certificateFile, certificateOf, recordCount}
-use Rattle.rules.specs.Answers.{Answer, Step, SessionStep, response, job, status, inSession, give, handOut}
+use Rattle.rules.specs.Session.{dropBoth}
+use Rattle.rules.specs.State.{good, goodCodes}
+use Rattle.rules.specs.Answers.{Answer, Step, SessionStep, response, job, codeStatus, sessionStatus, inSession}
+use Rattle.rules.specs.Answers.{inCodes, give}
 use Rattle.rules.specs.FileCommands.{select, readRecord, readBinary, getResponse}
-use Rattle.rules.specs.Digests.{isDigest}
-use Rattle.rules.specs.KeyCommands.{setEnvironment, kindChosen, chooseKey, internalAuthenticate, sign, decipher}
-use Rattle.rules.specs.CodeCommands.{judged, verify, change, newValue, unblockByVerifiedPuk, unblockByPresentedPuk, resetRetry}
-use Rattle.rules.specs.Judgement.{classes, instructions, badChaining, goodParameters, goodLengths, hasData, dropPending, sessionCommand, ownRules, judgeHeader, judgeForm, judge}
+use Rattle.rules.specs.KeyCommands.{setEnvironment, chooseKey, internalAuthenticate, sign, decipher}
+use Rattle.rules.specs.CodeCommands.{notAllowed, hasTries, judged, verify, newValue, change, unblockByVerifiedPuk}
+use Rattle.rules.specs.CodeCommands.{unblockByPresentedPuk, resetRetry}
+use Rattle.rules.specs.Judgement.{commands, instruction, parameters, hasData, lengths, ownRules, refusal}
+use Rattle.rules.specs.Judgement.{knownClass, knownInstruction, badChaining, judgeNamed, judgeHeader, judgeForm}
+use Rattle.rules.specs.Judgement.{judge}
 use Rattle.rules.specs.Delivery.{deliver}
-use Rattle.rules.specs.Edge.{refused, written, shortBuffer, badCertificate, jobWaits, command, delivery, powerReset}
-use Rattle.rules.specs.Counting.{Call, Command, Delivery, PowerReset, Exchange, step, exchangeOf, statusWord, replyStatus, replyKind, isCommand, formIs, okStatus, wrongStatus, verifies, changes, presentsPuk, unblocks, presents, answers, wrongAnswer, restoration, unblocking, rightVerify, handsSignature}
-use Rattle.rules.specs.CodeSheet.{CodeSheet, verifiedAfter, valueAfter, changed, anyUnblocks, anyUnblocked, byVerifiedPuk, presentedBy, presentedIn, handsPin1Job, storesPin, wasReset, opens, closes, Sheet, dataSent}
+use Rattle.rules.specs.Edge.{Result, refuse, written, cardAfter, answered, shortBuffer, badCertificate, jobWaits}
+use Rattle.rules.specs.Edge.{command, delivery, powerReset}
+use Rattle.rules.specs.Counting.{Call, Command, Delivery, PowerReset, Exchange, step, exchangeOf, statusWord}
+use Rattle.rules.specs.Counting.{returnedStatus, returnedKind, formSends, sentBy, readOff, dataSent, isCommand}
+use Rattle.rules.specs.Counting.{okStatus, wrongStatus, verifies, changes, presentsPuk, unblocks, presents}
+use Rattle.rules.specs.Counting.{answers, wrongAnswer, restoration, unblocking, rightVerify, handsSignature}
+use Rattle.rules.specs.CodeSheet.{CodeSheet, verifiedAfter, valueAfter, changed, anyUnblocks, anyUnblocked}
+use Rattle.rules.specs.CodeSheet.{byVerifiedPuk, presentedBy, presentedIn, handsPin1Job, storesPin, resetDone}
+use Rattle.rules.specs.CodeSheet.{opens, closes, Sheet}
 use Rattle.rules.proofs.StatusWords.{status-read, wrong-status, wrong-not-ok}
-use Rattle.rules.proofs.Parts.{good-code, code-length, code-tries, allowed-most, code-place, code-same, code-other}
+use Rattle.rules.proofs.Parts.{good-code, good-codes, code-length, code-tries, allowed-most, code-place}
+use Rattle.rules.proofs.Parts.{code-same, code-other}
+use Rattle.rules.proofs.Walks.{give-walk, select-walk, readRecord-walk, readBinary-walk, getResponse-walk}
+use Rattle.rules.proofs.Walks.{setEnvironment-walk, chooseKey-walk, authenticate-walk, sign-walk, decipher-walk}
+use Rattle.rules.proofs.Walks.{verdict-walk, replaced-walk, verifiedPuk-walk, resetRetry-walk}
+use Rattle.rules.proofs.Forms.{refusal-6700}
+use Rattle.rules.proofs.Keeping.{Found, is, nothing, found, verify-code, change-code, reset-code}
 
 -- An exchange that neither opens, closes, judges, stores nor unblocks code k, and hands out no signature.
 record Silent (k : ℕ) (e : Exchange) : Type 0 where
@@ -53,7 +67,7 @@ record Silent (k : ℕ) (e : Exchange) : Type 0 where
   using-puk : (okStatus (statusWord e) && isCommand byVerifiedPuk (e .call)) ≡ false
   storing-pin : (okStatus (statusWord e) && isCommand (storesPin k) (e .call)) ≡ false
   signing : handsSignature e ≡ false
-  resetting : wasReset (e .reply) ≡ false
+  resetting : resetDone (e .returned) ≡ false
 
 never : {A : Type 0} {t : Bool} → t ≡ false → t ≡ true → A
 never f e = absurd (false≢true (sym f ∙ e))
@@ -65,12 +79,12 @@ record Unjudged (k : ℕ) (e : Exchange) : Type 0 where
   freeing : unblocking k e ≡ false
   using-puk : answers okStatus byVerifiedPuk e ≡ false
 
-unjudged : (k : ℕ) (c : Card) (x : Call) (o : Outcome × Bytes) → Unjudged k (exchangeOf x o)
-    → codeOf (o .0 .card) k .verified ≡ verifiedAfter k (exchangeOf x o) (codeOf c k .verified)
-    → codeOf (o .0 .card) k .tries ≡ codeOf c k .tries
-    → value (codeOf (o .0 .card) k) ≡ valueAfter k (exchangeOf x o) (value (codeOf c PUK)) (value (codeOf c k))
-    → (handsPin1Job (exchangeOf x o) ≡ true → codeOf c PIN1 .verified ≡ true)
-    → (handsSignature (exchangeOf x o) ≡ true → codeOf c PIN2 .verified ≡ true)
+unjudged : (k : ℕ) (c : Card) (x : Call) (o : Result) → Unjudged k (exchangeOf x o)
+    → codeOf (o .card .codes) k .verified ≡ verifiedAfter k (exchangeOf x o) (codeOf (c .codes) k .verified)
+    → codeOf (o .card .codes) k .tries ≡ codeOf (c .codes) k .tries
+    → value (codeOf (o .card .codes) k) ≡ valueAfter k (exchangeOf x o) (value (codeOf (c .codes) PUK)) (value (codeOf (c .codes) k))
+    → (handsPin1Job (exchangeOf x o) ≡ true → codeOf (c .codes) PIN1 .verified ≡ true)
+    → (handsSignature (exchangeOf x o) ≡ true → codeOf (c .codes) PIN2 .verified ≡ true)
     → Sheet k c x o
 unjudged k c x o u m t v pin1 pin2 = record {
   verified = m;
@@ -79,7 +93,7 @@ unjudged k c x o u m t v pin1 pin2 = record {
   rightly = never (u .restoring);
   wrongly = never (u .wrongly);
   wrong = never (u .wrongly);
-  judged = never (u .wrongly);
+  hadTries = never (u .wrongly);
   restored = never (u .restoring);
   unblocked = never (u .freeing);
   pukUsed = never (u .using-puk);
@@ -88,8 +102,8 @@ unjudged k c x o u m t v pin1 pin2 = record {
 }
 
 -- Where the code is the same after it, the sheet holds of code k.
-unmoved : (k : ℕ) (c : Card) (x : Call) (o : Outcome × Bytes) → codeOf (o .0 .card) k ≡ codeOf c k → Silent k (exchangeOf x o)
-    → (handsPin1Job (exchangeOf x o) ≡ true → codeOf c PIN1 .verified ≡ true) → Sheet k c x o
+unmoved : (k : ℕ) (c : Card) (x : Call) (o : Result) → codeOf (o .card .codes) k ≡ codeOf (c .codes) k → Silent k (exchangeOf x o)
+    → (handsPin1Job (exchangeOf x o) ≡ true → codeOf (c .codes) PIN1 .verified ≡ true) → Sheet k c x o
 unfolding opens closes
 unmoved k c x o e s pin1 =
     unjudged k c x o (record { wrongly = s .wrongly; restoring = s .restoring; freeing = s .freeing; using-puk = s .using-puk })
@@ -110,7 +124,7 @@ module _ (k : ℕ) (c : Card) (x : Call) (w : Bytes) where
 
   -- a status word that is neither 9000 nor 63Cx moves nothing
   refusal-silent : (c′ : Card) (sw : ℕ) → okStatus sw ≡ false → wrongStatus sw ≡ false → Silent k (E c′ sw)
-  unfolding written replyKind wasReset
+  unfolding written returnedKind resetDone
   refusal-silent c′ sw n m =
       let z = told c′ sw in
       let ok : okStatus (statusWord (E c′ sw)) ≡ false = ap okStatus z ∙ n in
@@ -128,14 +142,14 @@ module _ (k : ℕ) (c : Card) (x : Call) (w : Bytes) where
         resetting = refl;
       }
 
-  refusal : (c′ : Card) (sw : ℕ) → codeOf c′ k ≡ codeOf c k → okStatus sw ≡ false → wrongStatus sw ≡ false → Sheet k c x (written w c′ (response [] sw))
-  unfolding written replyKind
-  refusal c′ sw e n m = unmoved k c x _ e (refusal-silent c′ sw n m) (never refl)
+  refused-sheet : (c′ : Card) (sw : ℕ) → codeOf (c′ .codes) k ≡ codeOf (c .codes) k → okStatus sw ≡ false → wrongStatus sw ≡ false → Sheet k c x (written w c′ (response [] sw))
+  unfolding written returnedKind
+  refused-sheet c′ sw e n m = unmoved k c x _ e (refusal-silent c′ sw n m) (never refl)
 
   -- an edge refusal moves nothing
-  edge-refusal : (r : Refusal) → Sheet k c x (refused c w r)
-  unfolding replyStatus replyKind wasReset okStatus wrongStatus
-  edge-refusal r = unmoved k c x _ refl (record {
+  edge-refusal : (n : ℕ) → Sheet k c x (refuse c w n)
+  unfolding returnedStatus returnedKind resetDone okStatus wrongStatus
+  edge-refusal n = unmoved k c x _ refl (record {
     rightly = refl;
     wrongly = refl;
     changing = refl;
@@ -148,22 +162,22 @@ module _ (k : ℕ) (c : Card) (x : Call) (w : Bytes) where
     resetting = refl;
   }) (never refl)
 
-  card-written : (c′ : Card) (a : Answer) → codeOf (written w c′ a .0 .card) k ≡ codeOf c′ k
+  card-written : (c′ : Card) (a : Answer) → codeOf (written w c′ a .card .codes) k ≡ codeOf (c′ .codes) k
   unfolding written
   card-written c′ (response d sw) = refl
   card-written c′ (job kind key block) = refl
 
   -- no answer is a reset
-  answer-reset : (c′ : Card) (a : Answer) → wasReset (written w c′ a .0 .reply) ≡ false
-  unfolding written wasReset
+  answer-reset : (c′ : Card) (a : Answer) → resetDone (written w c′ a .returned) ≡ false
+  unfolding written resetDone
   answer-reset c′ (response d sw) = refl
   answer-reset c′ (job kind key block) = refl
 
   -- a call that is no code command and hands out no signature moves nothing, whatever it answers
-  other-call : (c′ : Card) (a : Answer) → codeOf c′ k ≡ codeOf c k
+  other-call : (c′ : Card) (a : Answer) → codeOf (c′ .codes) k ≡ codeOf (c .codes) k
       → isCommand (verifies k) x ≡ false → isCommand (changes k) x ≡ false → isCommand (presents k) x ≡ false → isCommand (unblocks k) x ≡ false
       → isCommand anyUnblocks x ≡ false → isCommand byVerifiedPuk x ≡ false → isCommand (storesPin k) x ≡ false
-      → handsSignature (exchangeOf x (written w c′ a)) ≡ false → (handsPin1Job (exchangeOf x (written w c′ a)) ≡ true → codeOf c PIN1 .verified ≡ true)
+      → handsSignature (exchangeOf x (written w c′ a)) ≡ false → (handsPin1Job (exchangeOf x (written w c′ a)) ≡ true → codeOf (c .codes) PIN1 .verified ≡ true)
       → Sheet k c x (written w c′ a)
   unfolding written
   other-call c′ a e v n q u t p s z pin1 = unmoved k c x (written w c′ a) (card-written c′ a ∙ e) (record {
@@ -182,123 +196,67 @@ module _ (k : ℕ) (c : Card) (x : Call) (w : Bytes) where
 -- The kind of job that an answer hands out; 0 where it is a response.
 answerKind : Answer → ℕ
 answerKind (response d sw) = 0
-answerKind (job kind key block) = kindNumber kind
+answerKind (job kind key block) = kind
 
-kind-written : (w : Bytes) (c : Card) (a : Answer) → replyKind (written w c a .0 .reply) ≡ answerKind a
-unfolding written replyKind answerKind
+kind-written : (w : Bytes) (c : Card) (a : Answer) → returnedKind (written w c a .returned) ≡ answerKind a
+unfolding written returnedKind answerKind
 kind-written w c (response d sw) = refl
 kind-written w c (job kind key block) = refl
 
 -- The commands that change nothing but the session hand out no signature, and another job only while PIN1 is verified.
-record Permitted (c : Card) (o : SessionStep) : Type 0 where
+record Permitted (codes : List Code) (o : SessionStep) : Type 0 where
   unsigned : eqb (answerKind (o .answer)) 2 ≡ false
-  verified : (eqb (answerKind (o .answer)) 1 || eqb (answerKind (o .answer)) 3) ≡ true → codeOf c PIN1 .verified ≡ true
+  verified : (eqb (answerKind (o .answer)) 1 || eqb (answerKind (o .answer)) 3) ≡ true → codeOf codes PIN1 .verified ≡ true
 
 -- A response is.
-responds : (c : Card) (s : Session) (d : Bytes) (sw : ℕ) → Permitted c (record { session = s; answer = response d sw })
+response-permitted : {codes : List Code} {s : Session} {d : Bytes} {sw : ℕ} → Permitted codes (record { session = s; answer = response d sw })
 unfolding answerKind
-responds c s d sw = record { unsigned = refl; verified = never refl }
+response-permitted = record { unsigned = refl; verified = never refl }
 
-give-none : (c : Card) (s : Session) (le : ℕ) (d : Bytes) → Permitted c (give s le d)
-unfolding give
-give-none c s le d = split (Permitted c) (leb (length d) le) (λ _. responds c _ _ _) (λ _. responds c _ _ _)
+-- A job of kind 1 or 3 is, while PIN1 is verified.
+job-permitted : {codes : List Code} {s : Session} {key : ℕ} {block : Bytes} (kind : ℕ) → eqb kind 2 ≡ false → codeOf codes PIN1 .verified ≡ true
+    → Permitted codes (record { session = s; answer = job kind key block })
+unfolding answerKind
+job-permitted kind n given = record { unsigned = n; verified = λ _. given }
 
-module _ (c : Card) (s : Session) (h : Header) (d : Bytes) where
-  select-none : Permitted c (select s h d)
-  unfolding select answerKind
-  select-none =
-      split (Permitted c) (eqb (h .p1) 0x00) (λ _. responds c _ _ _)
-      (λ _. split (Permitted c) (eqb (h .p1) 0x01 && (eqb (s .selection .directory) root && eqb (word (byteAt d 0) (byteAt d 1)) esteidDirectory)) (λ _. responds c _ _ _)
-      (λ _. split (Permitted c) (eqb (h .p1) 0x02 && member (word (byteAt d 0) (byteAt d 1)) (filesIn (s .selection .directory))) (λ _. responds c _ _ _) (λ _. responds c _ _ _)))
+module _ (codes : List Code) where
+  abbrev N : SessionStep → Type 0
+  N = Permitted codes
 
-  readRecord-none : Permitted c (readRecord c s h)
-  unfolding readRecord answerKind
-  readRecord-none =
-      split (Permitted c) (eqb (s .selection .file) noFile) (λ _. responds c _ _ _)
-      (λ _. split (Permitted c) (certificateFile (s .selection .file)) (λ _. responds c _ _ _)
-      (λ _. split (Permitted c) (ltb (recordCount (s .selection .file)) (h .p1)) (λ _. responds c _ _ _) (λ _. give-none c s (h .le) _)))
+  refused-permitted : {s : Session} (sw : ℕ) → ltb sw 0x9000 ≡ true → N (sessionStatus s sw)
+  refused-permitted sw _ = response-permitted
 
-  readBinary-none : (authentication signature : Bytes) → Permitted c (readBinary s h authentication signature)
-  unfolding readBinary answerKind
-  readBinary-none authentication signature =
-      split (Permitted c) (eqb (s .selection .file) noFile) (λ _. responds c _ _ _)
-      (λ _. split (Permitted c) (not (certificateFile (s .selection .file))) (λ _. responds c _ _ _)
-      (λ _. split (Permitted c) (leb (length (certificateOf (s .selection .file) authentication signature)) (word (h .p1) (h .p2))) (λ _. responds c _ _ _) (λ _. responds c _ _ _)))
+  give-permitted : (s : Session) (le : ℕ) (d : Bytes) → N (give s le d)
+  give-permitted s le d = give-walk N s le d response-permitted response-permitted
 
-  getResponse-none : Permitted c (getResponse s h)
-  unfolding getResponse answerKind
-  getResponse-none =
-      split (Permitted c) (eqb (length (heldBytes s)) 0) (λ _. responds c _ _ _)
-      (λ _. split (Permitted c) (leb (length (heldBytes s)) (h .le)) (λ _. responds c _ _ _) (λ _. responds c _ _ _))
+  select-permitted : (s : Session) (h : Header) (d : Bytes) → N (select s h d)
+  select-permitted s h d = select-walk N s h d response-permitted response-permitted (λ _. response-permitted) response-permitted
 
-  setEnvironment-none : Permitted c (setEnvironment s h)
-  unfolding setEnvironment answerKind
-  setEnvironment-none =
-      split (Permitted c) (eqb (h .p2) 1 || eqb (h .p2) 6) (λ _. responds c _ _ _) (λ _. responds c _ _ _)
+  readRecord-permitted : (p : Profile) (s : Session) (h : Header) → N (readRecord codes p s h)
+  readRecord-permitted p s h = readRecord-walk N s codes p h refused-permitted (λ _. give-permitted s (h .le) _)
 
-  chooseKey-none : Permitted c (chooseKey c s h d)
-  unfolding chooseKey answerKind
-  chooseKey-none =
-      split (Permitted c) (same d (0x83 ∷ 0x00 ∷ [])) (λ _. responds c _ _ _)
-      (λ _. split (Permitted c) (not (eqb (length d) 5 && same (take 3 d) (0x83 ∷ 0x03 ∷ 0x80 ∷ []))) (λ _. responds c _ _ _)
-      (λ _. split (Permitted c) (not (ofClass (kindChosen (h .p2)) (word (byteAt d 3) (byteAt d 4)))) (λ _. responds c _ _ _)
-      (λ _. split (Permitted c) (not (present (c .keys) (word (byteAt d 3) (byteAt d 4)))) (λ _. responds c _ _ _) (λ _. responds c _ _ _))))
+  readBinary-permitted : (s : Session) (h : Header) (authentication signature : Bytes) → N (readBinary s h authentication signature)
+  readBinary-permitted s h authentication signature =
+      readBinary-walk N s h authentication signature refused-permitted (λ _ _. response-permitted)
 
-  authenticate-none : Permitted c (internalAuthenticate c s h d)
-  unfolding internalAuthenticate answerKind
-  authenticate-none =
-      split (Permitted c) (not (eqb (s .environment .number) 1)) (λ _. responds c _ _ _)
-      (λ _. split (Permitted c) (not (codeOf c PIN1 .verified)) (λ _. responds c _ _ _)
-      (λ given. record { unsigned = refl; verified = λ _. not-false _ given }))
+  getResponse-permitted : (s : Session) (h : Header) → N (getResponse s h)
+  getResponse-permitted s h = getResponse-walk N s h response-permitted response-permitted (λ _. response-permitted)
 
-  decipher-none : Permitted c (decipher c s h d)
-  unfolding decipher answerKind
-  decipher-none =
-      split (Permitted c) (ltb 257 (length (chainBytes s ++ d))) (λ _. responds c _ _ _)
-      (λ _. split (Permitted c) (eqb (h .cla) 0x10) (λ _. responds c _ _ _)
-      (λ _. split (Permitted c) (not (eqb (length (chainBytes s ++ d)) 257)) (λ _. responds c _ _ _)
-      (λ _. split (Permitted c) (not (eqb (byteAt (chainBytes s ++ d) 0) 0x00)) (λ _. responds c _ _ _)
-      (λ _. split (Permitted c) (not (eqb (s .environment .number) 6)) (λ _. responds c _ _ _)
-      (λ _. split (Permitted c) (not (codeOf c PIN1 .verified)) (λ _. responds c _ _ _)
-      (λ given. record { unsigned = refl; verified = λ _. not-false _ given }))))))
+  setEnvironment-permitted : (s : Session) (h : Header) → N (setEnvironment s h)
+  setEnvironment-permitted s h = setEnvironment-walk N s h (λ _. response-permitted) response-permitted
 
-session-none : (c : Card) (h : Header) (d authentication signature : Bytes) → Permitted c (sessionCommand c h d authentication signature)
-unfolding sessionCommand
-session-none c h d authentication signature =
-    split (Permitted c) (eqb (h .ins) 0xA4) (λ _. select-none c _ h d)
-    (λ _. split (Permitted c) (eqb (h .ins) 0xB2) (λ _. readRecord-none c _ h d)
-    (λ _. split (Permitted c) (eqb (h .ins) 0xB0) (λ _. readBinary-none c _ h d authentication signature)
-    (λ _. split (Permitted c) (eqb (h .ins) 0xC0) (λ _. getResponse-none c _ h d)
-    (λ _. split (Permitted c) (eqb (h .ins) 0x22 && eqb (h .p1) 0xF3) (λ _. setEnvironment-none c _ h d)
-    (λ _. split (Permitted c) (eqb (h .ins) 0x22) (λ _. chooseKey-none c _ h d)
-    (λ _. split (Permitted c) (eqb (h .ins) 0x88) (λ _. authenticate-none c _ h d) (λ _. decipher-none c _ h d)))))))
+  chooseKey-permitted : (keys : List Bool) (s : Session) (h : Header) (d : Bytes) → N (chooseKey keys s h d)
+  chooseKey-permitted keys s h d = chooseKey-walk N s keys h d refused-permitted response-permitted (λ _ _. response-permitted)
 
--- What steps 5 and 6 leave of the header of a code command.
-module _ (h : Header) where
-  parameters-20 : h .ins ≡ 0x20 → goodParameters h ≡ true → (eqb (h .p1) 0x00 && leb (h .p2) 2) ≡ true
-  unfolding goodParameters
-  parameters-20 i q = simp (i, or-false) at q
+  authenticate-permitted : (references : Bytes) (s : Session) (h : Header) (d : Bytes) → N (internalAuthenticate codes references s h d)
+  authenticate-permitted references s h d = authenticate-walk N s codes references h d refused-permitted (job-permitted 1 refl)
 
-  parameters-24 : h .ins ≡ 0x24 → goodParameters h ≡ true → (eqb (h .p1) 0x00 && leb (h .p2) 2) ≡ true
-  unfolding goodParameters
-  parameters-24 i q = simp (i, or-false) at q
-
-  parameters-2C : h .ins ≡ 0x2C → goodParameters h ≡ true → ((eqb (h .p1) 0x00 || eqb (h .p1) 0x03) && (leb 1 (h .p2) && leb (h .p2) 2)) ≡ true
-  unfolding goodParameters
-  parameters-2C i q = simp (i, or-false) at q
-
-  lengths-20 : h .ins ≡ 0x20 → goodLengths h ≡ true → hasData h ≡ true
-  unfolding goodLengths
-  lengths-20 i q = simp (i, or-false) at q
+  decipher-permitted : (references : Bytes) (s : Session) (h : Header) (d : Bytes) → N (decipher codes references s h d)
+  decipher-permitted references s h d =
+      decipher-walk N s codes references h d refused-permitted (λ _. response-permitted) (λ _. job-permitted 3 refl)
 
 -- What a header's tests say, by its instruction.
 module _ (k : ℕ) (h : Header) where
-  -- no instruction of a code command
-  record Elsewhere : Type 0 where
-    not-verify : eqb (h .ins) 0x20 ≡ false
-    not-change : eqb (h .ins) 0x24 ≡ false
-    not-unblock : eqb (h .ins) 0x2C ≡ false
-
   verifies-no : eqb (h .ins) 0x20 ≡ false → verifies k h ≡ false
   unfolding verifies
   verifies-no n = rw n
@@ -319,50 +277,69 @@ module _ (k : ℕ) (h : Header) where
   unfolding presents
   presents-no v n p = simp (v, n, p)
 
--- A command in a length form, on a good card.
-module _ (k : ℕ) (h3 : k < 3) (c : Card) (g : good c ≡ true) (b auth sig w : Bytes) (h : Header) (p : parse b ≡ Form h) where
+-- A command in a length form, on a card with good codes.
+module _ (k : ℕ) (h3 : k < 3) (c : Card) (g : goodCodes (c .codes) ≡ true) (b auth sig w : Bytes) (h : Header) (start : ℕ)
+    (p : parse b ≡ form h start) where
   abbrev x : Call
   x = Command b auth sig w
 
+  abbrev d : Bytes
+  d = dataOf b start h
+
+  abbrev cs : List Code
+  cs = c .codes
+
   abbrev S : Step → Type 0
-  S o = Sheet k c x (written w (o .card) (o .answer))
+  S o = Sheet k c x (answered w c o)
+
+  -- a command that changes nothing but the codes, and the card after it
+  abbrev T : CodeStep → Type 0
+  T o = S (inCodes (dropBoth (c .session)) o)
+
+  abbrev C : List Code → Card
+  C codes = record { codes = codes; profile = c .profile; session = dropBoth (c .session) }
 
   asked : (t : Header → Bool) → isCommand t x ≡ t h
-  unfolding isCommand formIs
+  unfolding sentBy formSends readOff
   asked t = rw p
 
-  sent : dataSent x ≡ dataOf b h
-  sent = rw p
+  data-sent : dataSent x ≡ d
+  unfolding sentBy formSends readOff
+  data-sent = rw p
 
-  shown : (stored : Bytes) → presentedIn stored x ≡ presentedBy h stored (dataOf b h)
+  shown : (stored : Bytes) → presentedIn stored x ≡ presentedBy stored h d
+  unfolding sentBy formSends readOff
   shown stored = rw p
 
   -- the tests of an exchange that a status word ended, by the header
-  answered : (c′ : Card) (sw : ℕ) (st : ℕ → Bool) (t : Header → Bool) → (st (statusWord (E k c x w c′ sw)) && isCommand t x) ≡ (st sw && t h)
-  answered c′ sw st t = rw (told k c x w c′ sw, asked t)
+  by-header : (codes : List Code) (sw : ℕ) (st : ℕ → Bool) (t : Header → Bool)
+      → (st (statusWord (E k c x w (C codes) sw)) && isCommand t x) ≡ (st sw && t h)
+  by-header codes sw st t = rw (told k c x w (C codes) sw, asked t)
 
   -- 9000
-  accepted : (c′ : Card)
-      → codeOf c′ k .verified ≡ (verifies k h || (not (changes k h || unblocks k h || eqb k PUK && anyUnblocks h) && codeOf c k .verified))
-      → codeOf c′ k .tries ≡ cond (presents k h || unblocks k h) 3 (codeOf c k .tries)
-      → value (codeOf c′ k) ≡ cond (changes k h) (drop (length (value (codeOf c k))) (dataOf b h))
-      (cond (storesPin k h) (drop (length (value (codeOf c PUK))) (dataOf b h)) (value (codeOf c k)))
-      → (presents k h ≡ true → 1 ≤ codeOf c k .tries) → (unblocks k h ≡ true → codeOf c k .tries ≡ 0)
-      → (presents k h ≡ true → same (presentedBy h (value (codeOf c k)) (dataOf b h)) (value (codeOf c k)) ≡ true)
-      → (byVerifiedPuk h ≡ true → codeOf c PUK .verified ≡ true)
-      → S (status c′ 0x9000)
-  unfolding written replyKind wasReset opens closes
-  accepted c′ m t v some none right puk =
-      let ok : (t : Header → Bool) → (okStatus (statusWord (E k c x w c′ 0x9000)) && isCommand t x) ≡ t h = λ t. unfold okStatus in answered c′ 0x9000 okStatus t in
-      let wr : (wrongStatus (statusWord (E k c x w c′ 0x9000)) && isCommand (presents k) x) ≡ false = unfold wrongStatus in answered c′ 0x9000 wrongStatus (presents k) in
+  accepted : (codes : List Code)
+      → codeOf codes k .verified ≡ (verifies k h || (not (changes k h || unblocks k h || (eqb k PUK && anyUnblocks h)) && codeOf cs k .verified))
+      → codeOf codes k .tries ≡ cond (presents k h || unblocks k h) 3 (codeOf cs k .tries)
+      → value (codeOf codes k) ≡ cond (changes k h) (drop (length (value (codeOf cs k))) d)
+      (cond (storesPin k h) (drop (length (value (codeOf cs PUK))) d) (value (codeOf cs k)))
+      → (presents k h ≡ true → 1 ≤ codeOf cs k .tries) → (unblocks k h ≡ true → codeOf cs k .tries ≡ 0)
+      → (presents k h ≡ true → same (presentedBy (value (codeOf cs k)) h d) (value (codeOf cs k)) ≡ true)
+      → (byVerifiedPuk h ≡ true → codeOf cs PUK .verified ≡ true)
+      → T (codeStatus codes 0x9000)
+  unfolding written returnedKind resetDone opens closes
+  accepted codes m t v some none right puk =
+      let ok : (t : Header → Bool) → (okStatus (statusWord (E k c x w (C codes) 0x9000)) && isCommand t x) ≡ t h =
+      λ t. unfold okStatus in by-header codes 0x9000 okStatus t in
+      let wr : (wrongStatus (statusWord (E k c x w (C codes) 0x9000)) && isCommand (presents k) x) ≡ false =
+      unfold wrongStatus in by-header codes 0x9000 wrongStatus (presents k) in
       record {
         verified = simp (ok (verifies k), ok (changes k), ok (unblocks k), ok anyUnblocks, wr, or-false, and-false) m;
         tries = simp (ok (presents k), ok (unblocks k), wr) t;
-        stored = simp (ok (changes k), ok (storesPin k), sent) v;
-        rightly = λ e. shown (value (codeOf c k)) ∙ same-equal _ _ (right (sym (ok (presents k)) ∙ e));
+        stored = simp (ok (changes k), ok (storesPin k), data-sent) v;
+        rightly = λ e. shown (value (codeOf cs k)) ∙ same-equal _ _ (right (sym (ok (presents k)) ∙ e));
         wrongly = never wr;
         wrong = never wr;
-        judged = never wr;
+        hadTries = never wr;
         restored = λ e. some (sym (ok (presents k)) ∙ e);
         unblocked = λ e. none (sym (ok (unblocks k)) ∙ e);
         pukUsed = λ e. puk (sym (ok byVerifiedPuk) ∙ e);
@@ -371,10 +348,11 @@ module _ (k : ℕ) (h3 : k < 3) (c : Card) (g : good c ≡ true) (b auth sig w :
       }
 
   -- 9000, to a command that is about another code
-  untouched : (c′ : Card) → codeOf c′ k ≡ codeOf c k → verifies k h ≡ false → changes k h ≡ false → unblocks k h ≡ false → presents k h ≡ false
-      → (eqb k PUK && anyUnblocks h) ≡ false → (byVerifiedPuk h ≡ true → codeOf c PUK .verified ≡ true) → S (status c′ 0x9000)
-  untouched c′ now v ch u p a puk =
-      accepted c′
+  untouched : (codes : List Code) → codeOf codes k ≡ codeOf cs k → verifies k h ≡ false → changes k h ≡ false → unblocks k h ≡ false
+      → presents k h ≡ false → (eqb k PUK && anyUnblocks h) ≡ false → (byVerifiedPuk h ≡ true → codeOf cs PUK .verified ≡ true)
+      → T (codeStatus codes 0x9000)
+  untouched codes now v ch u p a puk =
+      accepted codes
       (ap (λ (v : Code). v .verified) now ∙ rw (v, ch, u, a))
       (ap (λ (v : Code). v .tries) now ∙ rw (p, u))
       (ap value now ∙ rw (ch, u))
@@ -384,25 +362,27 @@ module _ (k : ℕ) (h3 : k < 3) (c : Card) (g : good c ≡ true) (b auth sig w :
       puk
 
   -- 63Cx
-  mistaken : (c′ : Card) (t : ℕ) → t ≤ 15
-      → codeOf c′ k .verified ≡ (not (presents k h) && codeOf c k .verified)
-      → codeOf c′ k .tries ≡ cond (presents k h) (codeOf c k .tries - 1) (codeOf c k .tries)
-      → value (codeOf c′ k) ≡ value (codeOf c k)
-      → (presents k h ≡ true → t ≡ codeOf c′ k .tries) → (presents k h ≡ true → 1 ≤ codeOf c k .tries)
-      → (presents k h ≡ true → same (presentedBy h (value (codeOf c k)) (dataOf b h)) (value (codeOf c k)) ≡ false)
-      → S (status c′ (0x63C0 + t))
-  unfolding written replyKind wasReset opens closes
-  mistaken c′ t l m s v left some wrong-value =
-      let wr : (wrongStatus (statusWord (E k c x w c′ (0x63C0 + t))) && isCommand (presents k) x) ≡ presents k h = answered c′ (0x63C0 + t) wrongStatus (presents k) ∙ ap (λ (q : Bool). q && presents k h) (wrong-status t l) in
-      let ok : (t′ : Header → Bool) → (okStatus (statusWord (E k c x w c′ (0x63C0 + t))) && isCommand t′ x) ≡ false = λ t′. answered c′ (0x63C0 + t) okStatus t′ ∙ ap (λ (q : Bool). q && t′ h) (wrong-not-ok t l) in
+  mistaken : (codes : List Code) (t : ℕ) → t ≤ 15
+      → codeOf codes k .verified ≡ (not (presents k h) && codeOf cs k .verified)
+      → codeOf codes k .tries ≡ cond (presents k h) (codeOf cs k .tries - 1) (codeOf cs k .tries)
+      → value (codeOf codes k) ≡ value (codeOf cs k)
+      → (presents k h ≡ true → t ≡ codeOf codes k .tries) → (presents k h ≡ true → 1 ≤ codeOf cs k .tries)
+      → (presents k h ≡ true → same (presentedBy (value (codeOf cs k)) h d) (value (codeOf cs k)) ≡ false)
+      → T (codeStatus codes (0x63C0 + t))
+  unfolding written returnedKind resetDone opens closes
+  mistaken codes t l m s v left some wrong-value =
+      let wr : (wrongStatus (statusWord (E k c x w (C codes) (0x63C0 + t))) && isCommand (presents k) x) ≡ presents k h =
+      by-header codes (0x63C0 + t) wrongStatus (presents k) ∙ ap (λ (q : Bool). q && presents k h) (wrong-status t l) in
+      let ok : (t′ : Header → Bool) → (okStatus (statusWord (E k c x w (C codes) (0x63C0 + t))) && isCommand t′ x) ≡ false =
+      λ t′. by-header codes (0x63C0 + t) okStatus t′ ∙ ap (λ (q : Bool). q && t′ h) (wrong-not-ok t l) in
       record {
         verified = simp (ok (verifies k), ok (changes k), ok (unblocks k), ok anyUnblocks, wr, or-false, and-false) m;
         tries = simp (ok (presents k), ok (unblocks k), wr) s;
         stored = simp (ok (changes k), ok (storesPin k)) v;
         rightly = never (ok (presents k));
-        wrongly = λ e. ap (λ (d : Bytes). same d (value (codeOf c k))) (shown (value (codeOf c k))) ∙ wrong-value (sym wr ∙ e);
-        wrong = λ e. told k c x w c′ (0x63C0 + t) ∙ ap (λ (n : ℕ). 0x63C0 + n) (left (sym wr ∙ e));
-        judged = λ e. some (sym wr ∙ e);
+        wrongly = λ e. ap (λ (d : Bytes). same d (value (codeOf cs k))) (shown (value (codeOf cs k))) ∙ wrong-value (sym wr ∙ e);
+        wrong = λ e. told k c x w (C codes) (0x63C0 + t) ∙ ap (λ (n : ℕ). 0x63C0 + n) (left (sym wr ∙ e));
+        hadTries = λ e. some (sym wr ∙ e);
         restored = never (ok (presents k));
         unblocked = never (ok (unblocks k));
         pukUsed = never (ok byVerifiedPuk);
@@ -410,92 +390,95 @@ module _ (k : ℕ) (h3 : k < 3) (c : Card) (g : good c ≡ true) (b auth sig w :
         signed = never refl;
       }
 
-  -- code j replaced by v: code k afterwards
-  replaced : (c′ : Card) (j : ℕ) (v : Code) → j < 3 → length (c′ .codes) ≡ length (c .codes) → k ≡ j → codeOf (withCode c′ j v) k ≡ v
-  replaced c′ j v q s e = rw e (code-same (c′ .codes) j v (omega (arith, code-place c g j q)))
+  -- code j of as many codes replaced by v: code k afterwards
+  same-code : (codes : List Code) (j : ℕ) (v : Code) → j < 3 → length codes ≡ length cs → k ≡ j → codeOf (withCode codes j v) k ≡ v
+  same-code codes j v q s e = rw e (code-same codes j v (omega (arith, code-place cs g j q)))
 
-  beside : (c′ : Card) (j : ℕ) (v : Code) → j < 3 → length (c′ .codes) ≡ length (c .codes) → k ≢ j → codeOf (withCode c′ j v) k ≡ codeOf c′ k
-  beside c′ j v q s n = code-other (c′ .codes) j v (omega (arith, code-place c g j q)) k n
+  other-code : (codes : List Code) (j : ℕ) (v : Code) → j < 3 → length codes ≡ length cs → k ≢ j
+      → codeOf (withCode codes j v) k ≡ codeOf codes k
+  other-code codes j v q s n = code-other codes j v (omega (arith, code-place cs g j q)) k n
 
-  -- a status word that refuses, with the held answer and the chain dropped
-  turned-down : (sw : ℕ) → okStatus sw ≡ false → wrongStatus sw ≡ false → S (status (dropPending c) sw)
-  turned-down sw n m = refusal k c x w (dropPending c) sw refl n m
+  -- a status word that refuses: the codes as they were
+  turned-down : (sw : ℕ) → okStatus sw ≡ false → wrongStatus sw ≡ false → S (refusal c sw)
+  turned-down sw n m = refused-sheet k c x w (C cs) sw refl n m
 
-  -- A value judged for code j, which is the code that the header presents a value for.
-  judged-sheet : (j : ℕ) → j < 3 → (d : Bytes) (ifRight : Step) → presents j h ≡ true → ((i : ℕ) → i ≢ j → presents i h ≡ false)
-      → d ≡ presentedBy h (value (codeOf c j)) (dataOf b h)
-      → (1 ≤ codeOf c j .tries → same (presentedBy h (value (codeOf c j)) (dataOf b h)) (value (codeOf c j)) ≡ true → S ifRight)
-      → S (judged (dropPending c) j d ifRight)
+  -- A value judged wrong for code j, which is the code that the header presents a value for.
+  wrong-sheet : (j : ℕ) → j < 3 → presents j h ≡ true → ((i : ℕ) → i ≢ j → presents i h ≡ false)
+      → 1 ≤ codeOf cs j .tries → same (presentedBy (value (codeOf cs j)) h d) (value (codeOf cs j)) ≡ false
+      → T (judged cs j Wrong)
   unfolding judged
-  judged-sheet j q d ifRight this none whole right =
-      let t = codeOf c j .tries in
-      let v : Code = marked (codeOf c j) (t - 1) false in
-      let c′ : Card = withCode (dropPending c) j v in
-      split S (eqb t 0) (λ e. unfold okStatus wrongStatus in turned-down 0x6983 refl refl) (λ z.
-      let some : 1 ≤ t = omega (arith, eqb-false t 0 z) in
-      split S (same d (value (codeOf c j))) (λ e. right some (rw whole at e)) (λ other.
-      let few : t - 1 ≤ 15 = omega (arith, code-tries j (codeOf c j) (good-code c g j q)) in
-      either (S (status c′ (0x63C0 + (t - 1)))) k j
+  wrong-sheet j q this none some other =
+      let t = codeOf cs j .tries in
+      let v : Code = marked (codeOf cs j) (t - 1) false in
+      let codes : List Code = withCode cs j v in
+      let few : t - 1 ≤ 15 = omega (arith, code-tries j (codeOf cs j) (good-code cs g j q)) in
+      either (T (codeStatus codes (0x63C0 + (t - 1)))) k j
       (λ e.
-      let now : codeOf c′ k ≡ v = replaced (dropPending c) j v q refl e in
+      let now : codeOf codes k ≡ v = same-code cs j v q refl e in
       let this-k : presents k h ≡ true = rw e this in
-      mistaken c′ (t - 1) few
+      mistaken codes (t - 1) few
       (ap (λ (v : Code). v .verified) now ∙ rw this-k)
       (ap (λ (v : Code). v .tries) now ∙ rw (this-k, e))
       (ap value now ∙ rw e)
       (λ _. sym (ap (λ (v : Code). v .tries) now))
       (λ _. rw e some)
-      (λ _. rw e (rw whole at other)))
+      (λ _. rw e other))
       (λ n.
-      let now : codeOf c′ k ≡ codeOf c k = beside (dropPending c) j v q refl n in
+      let now : codeOf codes k ≡ codeOf cs k = other-code cs j v q refl n in
       let none-k : presents k h ≡ false = none k n in
-      mistaken c′ (t - 1) few
+      mistaken codes (t - 1) few
       (ap (λ (v : Code). v .verified) now ∙ rw none-k)
       (ap (λ (v : Code). v .tries) now ∙ rw none-k)
       (ap value now)
       (never none-k)
       (never none-k)
-      (never none-k))))
+      (never none-k))
 
   -- 20 VERIFY
-  module _ (i : h .ins ≡ 0x20) (few : h .p2 ≤ 2) (d : hasData h ≡ true) where
+  module _ (i : h .ins ≡ 0x20) (few : h .p2 < 3) (some-data : hasData h ≡ true) where
     verify-tests : (j : ℕ) → verifies j h ≡ eqb (h .p2) j
     unfolding verifies
-    verify-tests j = simp (i, d)
+    verify-tests j = simp (i, some-data)
 
     verify-presents : (j : ℕ) → presents j h ≡ eqb (h .p2) j
     unfolding presents
     verify-presents j = simp (verify-tests j, changes-no j h (rw i), presentsPuk-no j h (rw i), and-false, or-false)
 
-    verify-sheet : S (verify (dropPending c) h (dataOf b h))
-    unfolding verify
-    verify-sheet =
+    -- right
+    verify-right : 1 ≤ codeOf cs (h .p2) .tries → same d (value (codeOf cs (h .p2))) ≡ true → T (judged cs (h .p2) Right)
+    unfolding judged
+    verify-right some right =
         let j = h .p2 in
-        let v : Code = marked (codeOf c j) 3 true in
-        let c′ : Card = withCode (dropPending c) j v in
-        judged-sheet j (omega arith) (dataOf b h) (status c′ 0x9000)
-        (verify-presents j ∙ eq-eqb j j refl)
-        (λ m n. verify-presents m ∙ ne-eqb j m (λ e. n (sym e)))
-        (rw i)
-        (λ some right. either (S (status c′ 0x9000)) k j
+        let v : Code = marked (codeOf cs j) 3 true in
+        let codes : List Code = withCode cs j v in
+        either (T (codeStatus codes 0x9000)) k j
         (λ e.
-        let now : codeOf c′ k ≡ v = replaced (dropPending c) j v (omega arith) refl e in
+        let now : codeOf codes k ≡ v = same-code cs j v few refl e in
         let it : eqb j k ≡ true = eq-eqb j k (sym e) in
-        accepted c′
+        accepted codes
         (ap (λ (v : Code). v .verified) now ∙ rw (verify-tests k, it))
         (ap (λ (v : Code). v .tries) now ∙ rw (verify-presents k, it))
         (ap value now ∙ rw (changes-no k h (rw i), unblocks-no k h (rw i), e))
         (λ _. rw e some)
         (never (unblocks-no k h (rw i)))
-        (λ _. rw e right)
+        (λ _. rw (i, e) right)
         (never (rw i)))
         (λ n.
         let other : eqb j k ≡ false = ne-eqb j k (λ e. n (sym e)) in
-        untouched c′ (beside (dropPending c) j v (omega arith) refl n)
-        (verify-tests k ∙ other) (changes-no k h (rw i)) (unblocks-no k h (rw i)) (verify-presents k ∙ other) (rw (i, and-false)) (never (rw i))))
+        untouched codes (other-code cs j v few refl n)
+        (verify-tests k ∙ other) (changes-no k h (rw i)) (unblocks-no k h (rw i)) (verify-presents k ∙ other) (rw (i, and-false)) (never (rw i)))
+
+    verify-sheet : T (verify cs h d)
+    unfolding verify judged okStatus wrongStatus
+    verify-sheet =
+        let j = h .p2 in
+        verdict-walk (λ v. T (judged cs j v)) (codeOf cs j) d
+        (λ _. turned-down 0x6983 refl refl)
+        verify-right
+        (λ some other. wrong-sheet j few (verify-presents j ∙ eq-eqb j j refl) (λ m n. verify-presents m ∙ ne-eqb j m (λ e. n (sym e))) some (rw i other))
 
   -- 24 CHANGE
-  module _ (i : h .ins ≡ 0x24) (few : h .p2 ≤ 2) where
+  module _ (i : h .ins ≡ 0x24) (few : h .p2 < 3) where
     change-tests : (j : ℕ) → changes j h ≡ eqb (h .p2) j
     unfolding changes
     change-tests j = simp i
@@ -504,39 +487,38 @@ module _ (k : ℕ) (h3 : k < 3) (c : Card) (g : good c ≡ true) (b auth sig w :
     unfolding presents
     change-presents j = simp (verifies-no j h (rw i), change-tests j, presentsPuk-no j h (rw i), and-false, or-false)
 
-    change-sheet : S (change (dropPending c) h (dataOf b h))
-    unfolding change
+    change-sheet : T (change cs h d)
+    unfolding change okStatus wrongStatus
     change-sheet =
         let j = h .p2 in
-        let new : Bytes = newValue c j (dataOf b h) in
+        let new : Bytes = newValue cs j d in
         let v : Code = storing new 3 false in
-        let c′ : Card = withCode (dropPending c) j v in
+        let codes : List Code = withCode cs j v in
+        let size : length (value (codeOf cs j)) ≡ codeOf cs j .len = code-length j (codeOf cs j) (good-code cs g j few) in
         let free-k = unblocks-no k h (rw i) in
-        judged-sheet j (omega arith) _ _
-        (change-presents j ∙ eq-eqb j j refl)
-        (λ m n. change-presents m ∙ ne-eqb j m (λ e. n (sym e)))
-        (rw (i, code-length j (codeOf c j) (good-code c g j (omega arith))))
-        (λ some right. split S (not (allowed j new)) (λ _. unfold okStatus wrongStatus in turned-down 0x6A80 refl refl)
-        (λ a. either (S (status c′ 0x9000)) k j
+        replaced-walk T cs j j new codes _
+        (λ _. turned-down 0x6983 refl refl)
+        (λ some other. wrong-sheet j few (change-presents j ∙ eq-eqb j j refl) (λ m n. change-presents m ∙ ne-eqb j m (λ e. n (sym e))) some (rw (i, size) other))
+        (turned-down notAllowed refl refl)
+        (λ some right a. either (T (codeStatus codes 0x9000)) k j
         (λ e.
-        let now : codeOf c′ k ≡ v = replaced (dropPending c) j v (omega arith) refl e in
+        let now : codeOf codes k ≡ v = same-code cs j v few refl e in
         let it : eqb j k ≡ true = eq-eqb j k (sym e) in
-        accepted c′
+        accepted codes
         (ap (λ (v : Code). v .verified) now ∙ rw (verifies-no k h (rw i), change-tests k, it))
         (ap (λ (v : Code). v .tries) now ∙ rw (change-presents k, it))
-        (ap value now ∙ take-filled 12 new (allowed-most j new (not-false _ a))
-        ∙ rw (change-tests k, it, e, code-length j (codeOf c j) (good-code c g j (omega arith))))
+        (ap value now ∙ take-filled 12 new (allowed-most j new a) ∙ rw (change-tests k, it, e, size))
         (λ _. rw e some)
         (never free-k)
-        (λ _. rw e right)
+        (λ _. rw (i, e, size) right)
         (never (rw i)))
         (λ n.
         let other : eqb j k ≡ false = ne-eqb j k (λ e. n (sym e)) in
-        untouched c′ (beside (dropPending c) j v (omega arith) refl n)
-        (verifies-no k h (rw i)) (change-tests k ∙ other) free-k (change-presents k ∙ other) (rw (i, and-false)) (never (rw i)))))
+        untouched codes (other-code cs j v few refl n)
+        (verifies-no k h (rw i)) (change-tests k ∙ other) free-k (change-presents k ∙ other) (rw (i, and-false)) (never (rw i))))
 
   -- 2C RESET RETRY
-  module _ (i : h .ins ≡ 0x2C) (pin : 1 ≤ h .p2) (few : h .p2 ≤ 2) where
+  module _ (i : h .ins ≡ 0x2C) (pin : 1 ≤ h .p2) (few : h .p2 < 3) where
     abbrev j : ℕ
     j = h .p2
 
@@ -549,17 +531,17 @@ module _ (k : ℕ) (h3 : k < 3) (c : Card) (g : good c ≡ true) (b auth sig w :
     pin-unblocks q m = simp (i, q)
 
     -- the marks of the PIN and of PUK after 9000, the mark of the other PIN
-    module _ (q : (eqb (h .p1) 0x00 || eqb (h .p1) 0x03) ≡ true) (blocked : codeOf c j .tries ≡ 0)
-        (puk : byVerifiedPuk h ≡ true → codeOf c PUK .verified ≡ true) (c′ : Card) where
+    module _ (q : (eqb (h .p1) 0x00 || eqb (h .p1) 0x03) ≡ true) (blocked : codeOf cs j .tries ≡ 0)
+        (puk : byVerifiedPuk h ≡ true → codeOf cs PUK .verified ≡ true) (codes : List Code) where
       -- the PIN
-      pin-done : k ≡ j → codeOf c′ k .verified ≡ false → codeOf c′ k .tries ≡ 3
-          → value (codeOf c′ k) ≡ cond (eqb (h .p1) 0x00) (drop (length (value (codeOf c PUK))) (dataOf b h)) (value (codeOf c k))
-          → S (status c′ 0x9000)
+      pin-done : k ≡ j → codeOf codes k .verified ≡ false → codeOf codes k .tries ≡ 3
+          → value (codeOf codes k) ≡ cond (eqb (h .p1) 0x00) (drop (length (value (codeOf cs PUK))) d) (value (codeOf cs k))
+          → T (codeStatus codes 0x9000)
       unfolding presentsPuk
       pin-done e m t v =
           let frees : unblocks k h ≡ true = pin-unblocks q k ∙ rw (eq-eqb j k (sym e), le-leb 1 k (omega arith)) in
           let not-puk : presents k h ≡ false = puk-presents k ∙ rw (ne-eqb k PUK (omega arith)) in
-          accepted c′
+          accepted codes
           (m ∙ rw (verifies-no k h (rw i), changes-no k h (rw i), frees))
           (t ∙ rw (not-puk, frees))
           (v ∙ rw (changes-no k h (rw i), frees, i))
@@ -569,13 +551,14 @@ module _ (k : ℕ) (h3 : k < 3) (c : Card) (g : good c ≡ true) (b auth sig w :
           puk
 
       -- PUK
-      puk-done : k ≡ PUK → codeOf c′ k .verified ≡ false → codeOf c′ k .tries ≡ cond (eqb (h .p1) 0x00) 3 (codeOf c k .tries)
-          → value (codeOf c′ k) ≡ value (codeOf c k) → (eqb (h .p1) 0x00 ≡ true → 1 ≤ codeOf c k .tries)
-          → (eqb (h .p1) 0x00 ≡ true → same (presentedBy h (value (codeOf c k)) (dataOf b h)) (value (codeOf c k)) ≡ true) → S (status c′ 0x9000)
+      puk-done : k ≡ PUK → codeOf codes k .verified ≡ false → codeOf codes k .tries ≡ cond (eqb (h .p1) 0x00) 3 (codeOf cs k .tries)
+          → value (codeOf codes k) ≡ value (codeOf cs k) → (eqb (h .p1) 0x00 ≡ true → 1 ≤ codeOf cs k .tries)
+          → (eqb (h .p1) 0x00 ≡ true → same (presentedBy (value (codeOf cs k)) h d) (value (codeOf cs k)) ≡ true)
+          → T (codeStatus codes 0x9000)
       puk-done e m t v some right =
           let frees : unblocks k h ≡ false = pin-unblocks q k ∙ rw (lt-leb 1 k (omega arith), and-false) in
           let this : eqb k PUK ≡ true = eq-eqb k PUK e in
-          accepted c′
+          accepted codes
           (m ∙ rw (verifies-no k h (rw i), changes-no k h (rw i), frees, this, i))
           (t ∙ rw (puk-presents k, frees, this, or-false))
           (v ∙ rw (changes-no k h (rw i), frees))
@@ -585,109 +568,91 @@ module _ (k : ℕ) (h3 : k < 3) (c : Card) (g : good c ≡ true) (b auth sig w :
           puk
 
       -- the other PIN
-      other-done : k ≢ j → k ≢ PUK → codeOf c′ k ≡ codeOf c k → S (status c′ 0x9000)
+      other-done : k ≢ j → k ≢ PUK → codeOf codes k ≡ codeOf cs k → T (codeStatus codes 0x9000)
       other-done n m now =
           let frees : unblocks k h ≡ false = pin-unblocks q k ∙ rw (ne-eqb j k (λ e. n (sym e))) in
           let not-puk : presents k h ≡ false = puk-presents k ∙ rw (ne-eqb k PUK m) in
-          untouched c′ now (verifies-no k h (rw i)) (changes-no k h (rw i)) frees not-puk (rw (ne-eqb k PUK m)) puk
+          untouched codes now (verifies-no k h (rw i)) (changes-no k h (rw i)) frees not-puk (rw (ne-eqb k PUK m)) puk
 
-      unblocked-done : (k ≡ j → S (status c′ 0x9000)) → (k ≡ PUK → S (status c′ 0x9000)) → (k ≢ j → k ≢ PUK → codeOf c′ k ≡ codeOf c k) → S (status c′ 0x9000)
+      unblocked-done : (k ≡ j → T (codeStatus codes 0x9000)) → (k ≡ PUK → T (codeStatus codes 0x9000))
+          → (k ≢ j → k ≢ PUK → codeOf codes k ≡ codeOf cs k) → T (codeStatus codes 0x9000)
       unblocked-done f u n = either _ k j f (λ a. either _ k PUK u (λ m. other-done a m (n a m)))
 
     -- P1 03
-    verified-puk-sheet : h .p1 ≡ 0x03 → codeOf c j .tries ≡ 0 → S (unblockByVerifiedPuk (dropPending c) j)
-    unfolding unblockByVerifiedPuk
+    verified-puk-sheet : h .p1 ≡ 0x03 → codeOf cs j .tries ≡ 0 → T (unblockByVerifiedPuk cs j)
+    unfolding okStatus wrongStatus
     verified-puk-sheet q blocked =
-        let v : Code = marked (codeOf c j) 3 false in
-        let c₁ : Card = withCode (dropPending c) j v in
-        let u : Code = marked (codeOf c₁ PUK) (codeOf c₁ PUK .tries) false in
-        let c₂ : Card = withCode c₁ PUK u in
-        let one-set : length (c₁ .codes) ≡ length (c .codes) = length-set (c .codes) j v in
-        let puk-kept : codeOf c₁ PUK ≡ codeOf c PUK = code-other (c .codes) j v (code-place c g j (omega arith)) PUK (omega arith) in
-        split S (not (codeOf c PUK .verified)) (λ _. unfold okStatus wrongStatus in turned-down 0x6982 refl refl)
+        let v : Code = marked (codeOf cs j) 3 false in
+        let first : List Code = withCode cs j v in
+        let u : Code = marked (codeOf first PUK) (codeOf first PUK .tries) false in
+        let both : List Code = withCode first PUK u in
+        let sized : length first ≡ length cs = length-set cs j v in
+        let puk-kept : codeOf first PUK ≡ codeOf cs PUK = code-other cs j v (code-place cs g j few) PUK (omega arith) in
+        verifiedPuk-walk T cs j (turned-down 0x6982 refl refl)
         (λ given.
-        let puk-shown : byVerifiedPuk h ≡ true → codeOf c PUK .verified ≡ true = λ _. not-false _ given in
-        unblocked-done (rw q) blocked puk-shown c₂
+        let puk-shown : byVerifiedPuk h ≡ true → codeOf cs PUK .verified ≡ true = λ _. given in
+        unblocked-done (rw q) blocked puk-shown both
         (λ e.
-        let now : codeOf c₂ k ≡ v = beside c₁ PUK u (omega arith) one-set (omega arith) ∙ replaced (dropPending c) j v (omega arith) refl e in
-        pin-done (rw q) blocked puk-shown c₂ e (ap (λ (v : Code). v .verified) now) (ap (λ (v : Code). v .tries) now) (ap value now ∙ rw (q, e)))
+        let now : codeOf both k ≡ v = other-code first PUK u (omega arith) sized (omega arith) ∙ same-code cs j v few refl e in
+        pin-done (rw q) blocked puk-shown both e (ap (λ (v : Code). v .verified) now) (ap (λ (v : Code). v .tries) now) (ap value now ∙ rw (q, e)))
         (λ e.
-        let now : codeOf c₂ k ≡ u = replaced c₁ PUK u (omega arith) one-set e in
-        puk-done (rw q) blocked puk-shown c₂ e (ap (λ (v : Code). v .verified) now)
+        let now : codeOf both k ≡ u = same-code first PUK u (omega arith) sized e in
+        puk-done (rw q) blocked puk-shown both e (ap (λ (v : Code). v .verified) now)
         (ap (λ (v : Code). v .tries) now ∙ rw (puk-kept, q, e)) (ap value now ∙ ap value puk-kept ∙ rw e) (never (rw q)) (never (rw q)))
-        (λ n m. beside c₁ PUK u (omega arith) one-set m ∙ beside (dropPending c) j v (omega arith) refl n))
+        (λ n m. other-code first PUK u (omega arith) sized m ∙ other-code cs j v few refl n))
 
     -- P1 00
-    presented-puk-sheet : h .p1 ≡ 0x00 → codeOf c j .tries ≡ 0 → S (unblockByPresentedPuk (dropPending c) j (dataOf b h))
-    unfolding unblockByPresentedPuk
+    presented-puk-sheet : h .p1 ≡ 0x00 → codeOf cs j .tries ≡ 0 → T (unblockByPresentedPuk cs j d)
+    unfolding unblockByPresentedPuk okStatus wrongStatus
     presented-puk-sheet q blocked =
-        let new : Bytes = newValue c PUK (dataOf b h) in
+        let new : Bytes = newValue cs PUK d in
         let v : Code = storing new 3 false in
-        let c₁ : Card = withCode (dropPending c) j v in
-        let u : Code = marked (codeOf c PUK) 3 false in
-        let c₂ : Card = withCode c₁ PUK u in
-        let one-set : length (c₁ .codes) ≡ length (c .codes) = length-set (c .codes) j v in
-        let puk-shown : byVerifiedPuk h ≡ true → codeOf c PUK .verified ≡ true = never (rw (i, q)) in
-        let done = unblocked-done (rw q) blocked puk-shown c₂ in
-        judged-sheet PUK (omega arith) _ _
-        (puk-presents PUK ∙ rw q)
-        (λ m n. puk-presents m ∙ rw (ne-eqb m PUK n))
-        (rw (i, code-length PUK (codeOf c PUK) (good-code c g PUK (omega arith))))
-        (λ some right. split S (not (allowed j new)) (λ _. unfold okStatus wrongStatus in turned-down 0x6A80 refl refl)
-        (λ a. done
+        let first : List Code = withCode cs j v in
+        let u : Code = marked (codeOf cs PUK) 3 false in
+        let both : List Code = withCode first PUK u in
+        let sized : length first ≡ length cs = length-set cs j v in
+        let size : length (value (codeOf cs PUK)) ≡ codeOf cs PUK .len = code-length PUK (codeOf cs PUK) (good-code cs g PUK (omega arith)) in
+        let puk-shown : byVerifiedPuk h ≡ true → codeOf cs PUK .verified ≡ true = never (rw (i, q)) in
+        replaced-walk T cs PUK j new both _
+        (λ _. turned-down 0x6983 refl refl)
+        (λ some other. wrong-sheet PUK (omega arith) (puk-presents PUK ∙ rw q) (λ m n. puk-presents m ∙ rw (ne-eqb m PUK n)) some (rw (i, size) other))
+        (turned-down notAllowed refl refl)
+        (λ some right a. unblocked-done (rw q) blocked puk-shown both
         (λ e.
-        let now : codeOf c₂ k ≡ v = beside c₁ PUK u (omega arith) one-set (omega arith) ∙ replaced (dropPending c) j v (omega arith) refl e in
-        pin-done (rw q) blocked puk-shown c₂ e (ap (λ (v : Code). v .verified) now) (ap (λ (v : Code). v .tries) now)
-        (ap value now ∙ take-filled 12 new (allowed-most j new (not-false _ a)) ∙ rw (q, code-length PUK (codeOf c PUK) (good-code c g PUK (omega arith)))))
+        let now : codeOf both k ≡ v = other-code first PUK u (omega arith) sized (omega arith) ∙ same-code cs j v few refl e in
+        pin-done (rw q) blocked puk-shown both e (ap (λ (v : Code). v .verified) now) (ap (λ (v : Code). v .tries) now)
+        (ap value now ∙ take-filled 12 new (allowed-most j new a) ∙ rw (q, size)))
         (λ e.
-        let now : codeOf c₂ k ≡ u = replaced c₁ PUK u (omega arith) one-set e in
-        puk-done (rw q) blocked puk-shown c₂ e (ap (λ (v : Code). v .verified) now) (ap (λ (v : Code). v .tries) now ∙ rw q) (ap value now ∙ rw e) (λ _. rw e some) (λ _. rw e right))
-        (λ n m. beside c₁ PUK u (omega arith) one-set m ∙ beside (dropPending c) j v (omega arith) refl n)))
+        let now : codeOf both k ≡ u = same-code first PUK u (omega arith) sized e in
+        puk-done (rw q) blocked puk-shown both e (ap (λ (v : Code). v .verified) now) (ap (λ (v : Code). v .tries) now ∙ rw q) (ap value now ∙ rw e)
+        (λ _. rw e some) (λ _. rw (i, e, size) right))
+        (λ n m. other-code first PUK u (omega arith) sized m ∙ other-code cs j v few refl n))
 
-    resetRetry-sheet : (eqb (h .p1) 0x00 || eqb (h .p1) 0x03) ≡ true → S (resetRetry (dropPending c) h (dataOf b h))
-    unfolding resetRetry
+    resetRetry-sheet : (eqb (h .p1) 0x00 || eqb (h .p1) 0x03) ≡ true → T (resetRetry cs h d)
+    unfolding okStatus wrongStatus
     resetRetry-sheet q =
-        split S (not (eqb (codeOf c j .tries) 0)) (λ _. unfold okStatus wrongStatus in turned-down 0x6A86 refl refl)
-        (λ z.
-        let blocked : codeOf c j .tries ≡ 0 = eqb-true _ _ (not-false _ z) in
-        split S (eqb (h .p1) 0x03)
-        (λ t. verified-puk-sheet (eqb-true (h .p1) 0x03 t) blocked)
-        (λ f. presented-puk-sheet (eqb-true (h .p1) 0x00 (sym (or-false _) ∙ rw f at q)) blocked))
+        resetRetry-walk T cs h d (turned-down hasTries refl refl)
+        (λ blocked t. verified-puk-sheet t blocked)
+        (λ blocked f. presented-puk-sheet (eqb-true (h .p1) 0x00 (sym (or-false _) ∙ rw f at q)) blocked)
 
   -- a job handed out: only a signature moves a code, and only PIN2
-  handed : (c′ : Card) (kind : JobKind) (key : ℕ) (block : Bytes)
-      → codeOf c′ k .verified ≡ (not (eqb k PIN2 && eqb (kindNumber kind) 2) && codeOf c k .verified)
-      → codeOf c′ k .tries ≡ codeOf c k .tries → value (codeOf c′ k) ≡ value (codeOf c k)
-      → (eqb (kindNumber kind) 2 ≡ true → codeOf c PIN2 .verified ≡ true)
-      → ((eqb (kindNumber kind) 1 || eqb (kindNumber kind) 3) ≡ true → codeOf c PIN1 .verified ≡ true)
+  handed : (c′ : Card) (kind key : ℕ) (block : Bytes)
+      → codeOf (c′ .codes) k .verified ≡ (not (eqb k PIN2 && eqb kind 2) && codeOf cs k .verified)
+      → codeOf (c′ .codes) k .tries ≡ codeOf cs k .tries → value (codeOf (c′ .codes) k) ≡ value (codeOf cs k)
+      → (eqb kind 2 ≡ true → codeOf cs PIN2 .verified ≡ true)
+      → ((eqb kind 1 || eqb kind 3) ≡ true → codeOf cs PIN1 .verified ≡ true)
       → Sheet k c x (written w c′ (job kind key block))
-  unfolding written replyStatus replyKind wasReset opens closes okStatus wrongStatus
+  unfolding written returnedStatus returnedKind resetDone opens closes okStatus wrongStatus
   handed c′ kind key block m t v given pin1 =
       unjudged k c x _ (record { wrongly = refl; restoring = refl; freeing = refl; using-puk = refl })
       (simp (and-true, and-false, or-false) m) t v (λ e. pin1 (simp and-true at e)) (λ e. given (simp and-true at e))
 
-  -- 2A 9E 9A SIGN
-  sign-sheet : S (sign c (dropPending c .session) h (dataOf b h))
-  unfolding sign
-  sign-sheet =
-      let s : Session = dropPending c .session in
-      let v : Code = marked (codeOf c PIN2) (codeOf c PIN2 .tries) false in
-      let c′ : Card = withSession (withCode c PIN2 v) (handOut s Sign (keyFor c s 2) (h .le) (padded (dataOf b h)) .session) in
-      split S (not (isDigest (dataOf b h))) (λ _. unfold okStatus wrongStatus in turned-down 0x6A80 refl refl)
-      (λ _. split S (not (eqb (s .environment .number) 1)) (λ _. unfold okStatus wrongStatus in turned-down 0x6985 refl refl)
-      (λ _. split S (not (codeOf c PIN2 .verified)) (λ _. unfold okStatus wrongStatus in turned-down 0x6982 refl refl)
-      (λ given. either (S (record { card = c′; answer = job Sign (keyFor c s 2) (padded (dataOf b h)) })) k PIN2
-      (λ e.
-      let now : codeOf c′ k ≡ v = replaced c PIN2 v (omega arith) refl e in
-      handed c′ Sign _ _ (ap (λ (v : Code). v .verified) now ∙ rw e) (ap (λ (v : Code). v .tries) now ∙ rw e) (ap value now ∙ rw e) (λ _. not-false _ given) (never refl))
-      (λ n.
-      let now : codeOf c′ k ≡ codeOf c k = beside c PIN2 v (omega arith) refl n in
-      handed c′ Sign _ _ (ap (λ (v : Code). v .verified) now ∙ rw (ne-eqb k PIN2 n)) (ap (λ (v : Code). v .tries) now) (ap value now) (λ _. not-false _ given) (never refl)))))
-
-  -- the commands that change nothing but the session
-  session-sheet : eqb (h .ins) 0x20 ≡ false → eqb (h .ins) 0x24 ≡ false → eqb (h .ins) 0x2C ≡ false → (o : SessionStep) → Permitted c o → S (inSession c o)
+  -- what a command of another instruction answers
+  session-sheet : eqb (h .ins) 0x20 ≡ false → eqb (h .ins) 0x24 ≡ false → eqb (h .ins) 0x2C ≡ false
+      → (o : SessionStep) → Permitted cs o → S (inSession cs o)
   session-sheet v n u o none =
-      other-call k c x w (withSession c (o .session)) (o .answer) refl
+      let c′ : Card = cardAfter c (inSession cs o) in
+      other-call k c x w c′ (o .answer) refl
       (asked (verifies k) ∙ verifies-no k h v)
       (asked (changes k) ∙ changes-no k h n)
       (asked (presents k) ∙ presents-no k h (verifies-no k h v) (changes-no k h n) (rw (presentsPuk-no k h u, and-false)))
@@ -695,99 +660,123 @@ module _ (k : ℕ) (h3 : k < 3) (c : Card) (g : good c ≡ true) (b auth sig w :
       (asked anyUnblocks ∙ u)
       (asked byVerifiedPuk ∙ rw u)
       (asked (storesPin k) ∙ rw (unblocks-no k h u))
-      (rw (kind-written w (withSession c (o .session)) (o .answer), none .unsigned))
-      (λ e. none .verified (simp (kind-written w (withSession c (o .session)) (o .answer), and-true) at e))
+      (rw (kind-written w c′ (o .answer), none .unsigned))
+      (λ e. none .verified (simp (kind-written w c′ (o .answer), and-true) at e))
+
+  -- 2A 9E 9A SIGN
+  sign-sheet : h .ins ≡ 0x2A → S (sign cs (c .profile .references) (dropBoth (c .session)) h d)
+  sign-sheet i =
+      let v : Code = marked (codeOf cs PIN2) (codeOf cs PIN2 .tries) false in
+      sign-walk S cs (c .profile .references) (dropBoth (c .session)) h d
+      (λ sw _. session-sheet (rw i) (rw i) (rw i) _ response-permitted)
+      (λ _ given. either _ k PIN2
+      (λ e.
+      let now : codeOf (withCode cs PIN2 v) k ≡ v = same-code cs PIN2 v (omega arith) refl e in
+      handed _ 2 _ _ (ap (λ (v : Code). v .verified) now ∙ rw e) (ap (λ (v : Code). v .tries) now ∙ rw e) (ap value now ∙ rw e) (λ _. given) (never refl))
+      (λ n.
+      let now : codeOf (withCode cs PIN2 v) k ≡ codeOf cs k = other-code cs PIN2 v (omega arith) refl n in
+      handed _ 2 _ _ (ap (λ (v : Code). v .verified) now ∙ rw (ne-eqb k PIN2 n)) (ap (λ (v : Code). v .tries) now) (ap value now) (λ _. given) (never refl)))
+
+  -- step 7, of a command that the header names
+  own-sheet : (o : Instruction) → h .ins ≡ instruction o → parameters o (h .p1) (h .p2) ≡ true → lengths o h ≡ true → S (ownRules o c h d auth sig)
+  unfolding ownRules instruction parameters lengths
+  own-sheet Select i q l = session-sheet (rw i) (rw i) (rw i) _ (select-permitted cs _ h d)
+  own-sheet ReadRecord i q l = session-sheet (rw i) (rw i) (rw i) _ (readRecord-permitted cs (c .profile) _ h)
+  own-sheet ReadBinary i q l = session-sheet (rw i) (rw i) (rw i) _ (readBinary-permitted cs _ h auth sig)
+  own-sheet GetResponse i q l = session-sheet (rw i) (rw i) (rw i) _ (getResponse-permitted cs _ h)
+  own-sheet Verify i q l = verify-sheet i (verify-code h q) l
+  own-sheet Change i q l = change-sheet i (change-code h q)
+  own-sheet ResetRetry i q l =
+      resetRetry-sheet i (reset-code h q .0) (reset-code h q .1)
+      (and-left (eqb (h .p1) 0x00 || eqb (h .p1) 0x03) (leb 1 (h .p2) && leb (h .p2) 2) q)
+  own-sheet SetEnvironment i q l = session-sheet (rw i) (rw i) (rw i) _ (setEnvironment-permitted cs _ h)
+  own-sheet ChooseKey i q l = session-sheet (rw i) (rw i) (rw i) _ (chooseKey-permitted cs (c .profile .keys) _ h d)
+  own-sheet InternalAuthenticate i q l = session-sheet (rw i) (rw i) (rw i) _ (authenticate-permitted cs (c .profile .references) _ h d)
+  own-sheet ComputeSignature i q l = sign-sheet i
+  own-sheet Decipher i q l = session-sheet (rw i) (rw i) (rw i) _ (decipher-permitted cs (c .profile .references) _ h d)
+
+  named-sheet : {n : Named} → Found h n → S (judgeNamed n c h d auth sig)
+  unfolding judgeNamed okStatus wrongStatus
+  named-sheet nothing = turned-down 0x6A86 refl refl
+  named-sheet (is o fits) =
+      split S (not (lengths o h)) (λ _. turned-down 0x6700 refl refl) (λ l. own-sheet o (fits .ins) (fits .parameters) (not-false _ l))
 
   -- steps 2 to 7
-  own-sheet : goodParameters h ≡ true → goodLengths h ≡ true → S (ownRules c h (dataOf b h) auth sig)
-  unfolding ownRules
-  own-sheet q l =
-      split S (eqb (h .ins) 0x20)
-      (λ t. let i = eqb-true (h .ins) 0x20 t in verify-sheet i (leb-true _ _ (and-right (eqb (h .p1) 0x00) _ (parameters-20 h i q))) (lengths-20 h i l))
-      (λ v. split S (eqb (h .ins) 0x24)
-      (λ t. let i = eqb-true (h .ins) 0x24 t in change-sheet i (leb-true _ _ (and-right (eqb (h .p1) 0x00) _ (parameters-24 h i q))))
-      (λ n. split S (eqb (h .ins) 0x2C)
-      (λ t.
-      let i = eqb-true (h .ins) 0x2C t in
-      let P1 : Bool = eqb (h .p1) 0x00 || eqb (h .p1) 0x03 in
-      let both : (leb 1 (h .p2) && leb (h .p2) 2) ≡ true = and-right P1 (leb 1 (h .p2) && leb (h .p2) 2) (parameters-2C h i q) in
-      resetRetry-sheet i (leb-true _ _ (and-left (leb 1 (h .p2)) (leb (h .p2) 2) both)) (leb-true _ _ (and-right (leb 1 (h .p2)) (leb (h .p2) 2) both))
-      (and-left P1 (leb 1 (h .p2) && leb (h .p2) 2) (parameters-2C h i q)))
-      (λ u. split S (eqb (h .ins) 0x2A && eqb (h .p1) 0x9E) (λ _. sign-sheet)
-      (λ _. session-sheet v n u (sessionCommand c h (dataOf b h) auth sig) (session-none c h (dataOf b h) auth sig)))))
-
-  header-sheet : S (judgeHeader c h (dataOf b h) auth sig)
-  unfolding judgeHeader
+  header-sheet : S (judgeHeader c h d auth sig)
+  unfolding judgeHeader okStatus wrongStatus
   header-sheet =
-      split S (not (member (h .cla) classes)) (λ _. unfold okStatus wrongStatus in turned-down 0x6E00 refl refl)
-      (λ _. split S (not (member (h .ins) instructions)) (λ _. unfold okStatus wrongStatus in turned-down 0x6D00 refl refl)
-      (λ _. split S (badChaining h) (λ _. unfold okStatus wrongStatus in turned-down 0x6884 refl refl)
-      (λ _. split S (not (goodParameters h)) (λ _. unfold okStatus wrongStatus in turned-down 0x6A86 refl refl)
-      (λ q. split S (not (goodLengths h)) (λ _. unfold okStatus wrongStatus in turned-down 0x6700 refl refl)
-      (λ l. own-sheet (not-false _ q) (not-false _ l))))))
+      split S (not (knownClass h)) (λ _. turned-down 0x6E00 refl refl)
+      (λ _. split S (not (knownInstruction h)) (λ _. turned-down 0x6D00 refl refl)
+      (λ _. split S (badChaining h) (λ _. turned-down 0x6884 refl refl)
+      (λ _. named-sheet (found h commands))))
 
 -- A command.
 module _ (k : ℕ) (h3 : k < 3) (c : Card) (b auth sig w : Bytes) where
-  form-sheet : good c ≡ true → (form : Parsed) → parse b ≡ form
-      → Sheet k c (Command b auth sig w) (written w (judgeForm c b form auth sig .card) (judgeForm c b form auth sig .answer))
+  form-sheet : good c ≡ true → (f : LengthForm) → parse b ≡ f → Sheet k c (Command b auth sig w) (answered w c (judgeForm c b f auth sig))
   unfolding judgeForm okStatus wrongStatus
-  form-sheet g Malformed p = refusal k c (Command b auth sig w) w (dropPending c) 0x6700 refl refl refl
-  form-sheet g (Form h) p = header-sheet k h3 c g b auth sig w h p
+  form-sheet g (refused sw) p = refused-sheet k c (Command b auth sig w) w _ sw refl (only-refusal okStatus sw p refl) (only-refusal wrongStatus sw p refl)
+    where
+      only-refusal : (t : ℕ → Bool) (sw : ℕ) → parse b ≡ refused sw → t 0x6700 ≡ false → t sw ≡ false
+      only-refusal t sw p e = rw (refusal-6700 b sw p) e
+  form-sheet g (form h start) p = header-sheet k h3 c (good-codes c g) b auth sig w h start p
 
   command-sheet : Sheet k c (Command b auth sig w) (command c b auth sig w)
   unfolding command judge
   command-sheet =
-      let S : Outcome × Bytes → Type 0 = Sheet k c (Command b auth sig w) in
-      split S (not (good c)) (λ _. edge-refusal k c (Command b auth sig w) w BadState)
-      (λ g. split S (shortBuffer w) (λ _. edge-refusal k c (Command b auth sig w) w ShortBuffer)
-      (λ _. split S (badCertificate auth || badCertificate sig) (λ _. edge-refusal k c (Command b auth sig w) w CertificateLength)
-      (λ _. split S (jobWaits c) (λ _. edge-refusal k c (Command b auth sig w) w JobWaiting)
+      let S : Result → Type 0 = Sheet k c (Command b auth sig w) in
+      split S (not (good c)) (λ _. edge-refusal k c (Command b auth sig w) w 1)
+      (λ g. split S (shortBuffer w) (λ _. edge-refusal k c (Command b auth sig w) w 2)
+      (λ _. split S (badCertificate auth || badCertificate sig) (λ _. edge-refusal k c (Command b auth sig w) w 3)
+      (λ _. split S (jobWaits c) (λ _. edge-refusal k c (Command b auth sig w) w 4)
       (λ _. form-sheet (not-false _ g) (parse b) refl))))
 
 -- A delivery.
 delivery-sheet : (k : ℕ) (c : Card) (r w : Bytes) → Sheet k c (Delivery r w) (delivery c r w)
-unfolding delivery isCommand
+unfolding delivery sentBy readOff
 delivery-sheet k c r w =
-    let S : Outcome × Bytes → Type 0 = Sheet k c (Delivery r w) in
+    let S : Result → Type 0 = Sheet k c (Delivery r w) in
     let o : SessionStep = deliver (c .session) r in
-    split S (not (good c)) (λ _. edge-refusal k c (Delivery r w) w BadState)
-    (λ _. split S (shortBuffer w) (λ _. edge-refusal k c (Delivery r w) w ShortBuffer)
-    (λ _. split S (not (jobWaits c)) (λ _. edge-refusal k c (Delivery r w) w NoJobWaiting)
-    (λ _. other-call k c (Delivery r w) w (withSession c (o .session)) (o .answer) refl refl refl refl refl refl refl refl (simp and-false) (never (simp and-false)))))
+    split S (not (good c)) (λ _. edge-refusal k c (Delivery r w) w 1)
+    (λ _. split S (shortBuffer w) (λ _. edge-refusal k c (Delivery r w) w 2)
+    (λ _. split S (not (jobWaits c)) (λ _. edge-refusal k c (Delivery r w) w 5)
+    (λ _. other-call k c (Delivery r w) w (cardAfter c (inSession (c .codes) o)) (o .answer) refl refl refl refl refl refl refl refl
+    (simp and-false) (never (simp and-false)))))
 
 -- A power reset closes each code and changes nothing else of it.
-module _ (c : Card) (g : good c ≡ true) where
+module _ (cs : List Code) (g : goodCodes cs ≡ true) where
   abbrev shut : Code → Code
   shut v = marked v (v .tries) false
 
-  shut-place : (c′ : Card) (j : ℕ) → length (c′ .codes) ≡ length (c .codes) → length (closed c′ j .codes) ≡ length (c .codes)
-  shut-place c′ j e = length-set (c′ .codes) j (shut (codeOf c′ j)) ∙ e
+  shut-place : (codes : List Code) (j : ℕ) → length codes ≡ length cs → length (closed codes j) ≡ length cs
+  shut-place codes j e = length-set codes j (shut (codeOf codes j)) ∙ e
 
-  shut-same : (c′ : Card) (j : ℕ) → j < 3 → length (c′ .codes) ≡ length (c .codes) → codeOf (closed c′ j) j ≡ shut (codeOf c′ j)
-  shut-same c′ j q e = code-same (c′ .codes) j (shut (codeOf c′ j)) (omega (arith, code-place c g j q))
+  shut-same : (codes : List Code) (j : ℕ) → j < 3 → length codes ≡ length cs → codeOf (closed codes j) j ≡ shut (codeOf codes j)
+  shut-same codes j q e = code-same codes j (shut (codeOf codes j)) (omega (arith, code-place cs g j q))
 
-  shut-other : (c′ : Card) (j k : ℕ) → j < 3 → length (c′ .codes) ≡ length (c .codes) → k ≢ j → codeOf (closed c′ j) k ≡ codeOf c′ k
-  shut-other c′ j k q e n = code-other (c′ .codes) j (shut (codeOf c′ j)) (omega (arith, code-place c g j q)) k n
+  shut-other : (codes : List Code) (j k : ℕ) → j < 3 → length codes ≡ length cs → k ≢ j → codeOf (closed codes j) k ≡ codeOf codes k
+  shut-other codes j k q e n = code-other codes j (shut (codeOf codes j)) (omega (arith, code-place cs g j q)) k n
 
-  all-shut : (k : ℕ) → k < 3 → codeOf (closed (closed (closed c PUK) PIN1) PIN2) k ≡ shut (codeOf c k)
+  all-shut : (k : ℕ) → k < 3 → codeOf (closed (closed (closed cs PUK) PIN1) PIN2) k ≡ shut (codeOf cs k)
   all-shut =
-      let c₁ : Card = closed c PUK in
-      let c₂ : Card = closed c₁ PIN1 in
-      let l₁ : length (c₁ .codes) ≡ length (c .codes) = shut-place c PUK refl in
-      let l₂ : length (c₂ .codes) ≡ length (c .codes) = shut-place c₁ PIN1 l₁ in
-      below-three (λ k. codeOf (closed c₂ PIN2) k ≡ shut (codeOf c k))
-      (shut-other c₂ PIN2 PUK (omega arith) l₂ (omega arith) ∙ shut-other c₁ PIN1 PUK (omega arith) l₁ (omega arith) ∙ shut-same c PUK (omega arith) refl)
-      (shut-other c₂ PIN2 PIN1 (omega arith) l₂ (omega arith) ∙ shut-same c₁ PIN1 (omega arith) l₁
-      ∙ ap shut (shut-other c PUK PIN1 (omega arith) refl (omega arith)))
-      (shut-same c₂ PIN2 (omega arith) l₂
-      ∙ ap shut (shut-other c₁ PIN1 PIN2 (omega arith) l₁ (omega arith) ∙ shut-other c PUK PIN2 (omega arith) refl (omega arith)))
+      let one : List Code = closed cs PUK in
+      let two : List Code = closed one PIN1 in
+      let l₁ : length one ≡ length cs = shut-place cs PUK refl in
+      let l₂ : length two ≡ length cs = shut-place one PIN1 l₁ in
+      below-three (λ k. codeOf (closed two PIN2) k ≡ shut (codeOf cs k))
+      (shut-other two PIN2 PUK (omega arith) l₂ (omega arith) ∙ shut-other one PIN1 PUK (omega arith) l₁ (omega arith)
+      ∙ shut-same cs PUK (omega arith) refl)
+      (shut-other two PIN2 PIN1 (omega arith) l₂ (omega arith) ∙ shut-same one PIN1 (omega arith) l₁
+      ∙ ap shut (shut-other cs PUK PIN1 (omega arith) refl (omega arith)))
+      (shut-same two PIN2 (omega arith) l₂
+      ∙ ap shut (shut-other one PIN1 PIN2 (omega arith) l₁ (omega arith) ∙ shut-other cs PUK PIN2 (omega arith) refl (omega arith)))
 
-reset-sheet : (k : ℕ) → k < 3 → (c : Card) → Sheet k c PowerReset (powerReset c, [])
-unfolding powerReset replyStatus replyKind wasReset isCommand okStatus wrongStatus opens closes
+reset-sheet : (k : ℕ) → k < 3 → (c : Card) → Sheet k c PowerReset (record { returned = powerReset c .0; card = powerReset c .1; buffer = [] })
+unfolding powerReset returnedStatus returnedKind resetDone sentBy readOff okStatus wrongStatus opens closes
 reset-sheet k h3 c =
-    split (λ (o : Outcome). Sheet k c PowerReset (o, [])) (not (good c)) (λ _. edge-refusal k c PowerReset [] BadState)
+    split (λ (o : Returned × Card). Sheet k c PowerReset (record { returned = o .0; card = o .1; buffer = [] })) (not (good c))
+    (λ _. edge-refusal k c PowerReset [] 1)
     (λ g.
-    let now = all-shut c (not-false _ g) k h3 in
+    let now = all-shut (c .codes) (good-codes c (not-false _ g)) k h3 in
     unjudged k c PowerReset _ (record { wrongly = refl; restoring = refl; freeing = refl; using-puk = refl })
     (simp and-false (ap (λ (v : Code). v .verified) now)) (ap (λ (v : Code). v .tries) now) (ap value now) (never refl) (never refl))
 

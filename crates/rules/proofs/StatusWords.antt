@@ -8,13 +8,13 @@ use lib.ListN.{length}
 use borrow.Author.Tests.{ne-eqb, le-leb}
 use Rattle.octets.specs.Octets.{Bytes}
 use Rattle.octets.proofs.Words.{word-of-halves}
-use Rattle.rules.specs.declared.Reply.the-variants.{Response}
+use Rattle.rules.specs.Numbers.{responded}
 use Rattle.rules.specs.Edge.{responseIn}
-use Rattle.rules.specs.Counting.{replyStatus, wrongStatus, okStatus}
+use Rattle.rules.specs.Counting.{returnedStatus, wrongStatus, okStatus}
 
 -- A status word alone is read back.
-pub status-read : (w : Bytes) (sw : ℕ) → replyStatus (Response (length {A = ℕ} [] + 2)) (responseIn w [] sw) ≡ sw
-unfolding replyStatus responseIn
+pub status-read : (w : Bytes) (sw : ℕ) → returnedStatus (responded (length {A = ℕ} [] + 2)) (responseIn w [] sw) ≡ sw
+unfolding returnedStatus responseIn
 status-read w sw = word-of-halves sw
 
 -- 63Cx is a wrong answer and no right one.

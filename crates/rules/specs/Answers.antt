@@ -2,41 +2,48 @@
 -- "Key host" is document 01's term for the program that holds the private keys and computes with them.
 use Prim.Native.Nat.{ℕ, _+_}
 use mathlib.Core.Bool.{cond}
-use mathlib.Core.List.{[]}
+use mathlib.Core.List.{List, []}
 use lib.ListN.{length}
 use lib.Dec.{eqb, leb}
 use Rattle.octets.specs.Octets.{Bytes}
-use Rattle.rules.specs.declared.Card.{Card}
+use Rattle.rules.specs.declared.Code.{Code}
+use Rattle.rules.specs.declared.CodeStep.{CodeStep}
 use Rattle.rules.specs.declared.Session.{Session}
-use Rattle.rules.specs.declared.JobKind.{JobKind}
-use Rattle.rules.specs.Keys.{kindNumber}
-use Rattle.rules.specs.Session.{withSession, withHeld, withJob}
+use Rattle.rules.specs.Session.{withHeld, withJob}
 
 -- What a command or a delivery answers, before it is written to the buffer: response data and a status word,
 -- or a job for the key host, by its kind, its key and its 256-byte block.
 pub data Answer : Type 0 where
   response : Bytes → ℕ → Answer
-  job : JobKind → ℕ → Bytes → Answer
+  job : ℕ → ℕ → Bytes → Answer
 
--- The next card and the answer.
+-- The codes and the session after a command, and its answer. What else the card has no command changes.
 pub record Step : Type 0 where
-  pub card : Card
+  pub codes : List Code
+  pub session : Session
   pub answer : Answer
 
--- The next session and the answer, of a command that changes nothing but the session.
+-- The session after a command that changes nothing but the session, and its answer.
 pub record SessionStep : Type 0 where
   pub session : Session
   pub answer : Answer
 
-abbrev pub inSession : Card → SessionStep → Step
-inSession c s = record { card = withSession c (s .session); answer = s .answer }
+-- A command that changes nothing but the session; one that changes nothing but the codes and answers by a status word alone (`CodeStep`).
+abbrev pub inSession : List Code → SessionStep → Step
+inSession codes o = record { codes = codes; session = o .session; answer = o .answer }
+
+abbrev pub inCodes : Session → CodeStep → Step
+inCodes s o = record { codes = o .codes; session = s; answer = response [] (o .sw) }
 
 -- A status word alone.
-abbrev pub status : Card → ℕ → Step
-status c sw = record { card = c; answer = response [] sw }
+abbrev pub codeStatus : List Code → ℕ → CodeStep
+codeStatus codes sw = record { codes = codes; sw = sw }
 
 abbrev pub sessionStatus : Session → ℕ → SessionStep
 sessionStatus s sw = record { session = s; answer = response [] sw }
+
+abbrev pub status : List Code → Session → ℕ → Step
+status codes s sw = inSession codes (sessionStatus s sw)
 
 -- 61 and n, 256 as 00.
 unfoldable pub moreBytes : ℕ → ℕ
@@ -50,6 +57,6 @@ give s le d =
     (sessionStatus (withHeld s d) (moreBytes (length d)))
 
 -- A job is handed out, and waits with its Le.
-abbrev pub handOut : Session → JobKind → ℕ → ℕ → Bytes → SessionStep
+abbrev pub handOut : Session → ℕ → ℕ → ℕ → Bytes → SessionStep
 handOut s kind key le block =
-    record { session = withJob s (record { kind = kindNumber kind; key = key; le = le }); answer = job kind key block }
+    record { session = withJob s (record { kind = kind; key = key; le = le }); answer = job kind key block }

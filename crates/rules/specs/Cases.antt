@@ -1,5 +1,5 @@
 -- Document 01, "Cases": P1 to P10 as one list, P1 to P9 from the sample card, and the theorem's statement.
-use Prim.Native.Nat.{ℕ, zero, suc, _-_}
+use Prim.Native.Nat.{ℕ, suc, _-_}
 use mathlib.Core.Path.{_≡_}
 use mathlib.Core.Bool.{Bool, true, false, cond}
 use mathlib.Core.List.{List, [], _∷_, _++_, map}
@@ -8,14 +8,11 @@ use lib.Dec.{eqb}
 use Rattle.octets.specs.Octets.{Bytes}
 use Rattle.pkcs1.specs.Pkcs1.{pad}
 use Rattle.rules.specs.declared.Card.{Card}
-use Rattle.rules.specs.declared.Reply.{Reply}
-use Rattle.rules.specs.declared.Reply.the-variants.{Refused, Response, HandedOut, WasReset}
+use Rattle.rules.specs.Numbers.{Returned, edge, responded, handedOut, wasReset}
 use Rattle.rules.specs.Codes.{PUK, PIN1, PIN2, codeOf}
-use Rattle.rules.specs.Keys.{kindNumber}
 use Rattle.rules.specs.Digests.{sha1Prefix}
-use Rattle.rules.specs.Edge.{refusalNumber}
-use Rattle.rules.specs.Counting.{Call, Command, Delivery, PowerReset, trace, after, replyStatus}
-use Rattle.rules.specs.Image.{load, loadNumber}
+use Rattle.rules.specs.Counting.{Call, Command, Delivery, PowerReset, trace, after, returnedStatus}
+use Rattle.rules.specs.Image.{load}
 use Rattle.rules.specs.Sample.{sampleCard, pin1, pin2}
 
 -- What is seen of a call: response data and status word; a job's kind, key and block; an edge refusal's number; or a reset.
@@ -23,25 +20,25 @@ use Rattle.rules.specs.Sample.{sampleCard, pin1, pin2}
 pub data Seen : Type 0 where
   shows : Bytes → ℕ → Seen
   hands : ℕ → ℕ → Bytes → Seen
-  edge : ℕ → Seen
+  refuses : ℕ → Seen
   isReset : Seen
   code : ℕ → ℕ → Bool → Seen
   loads : ℕ → Seen
   pads : ℕ → ℕ → Seen
 
-abbrev pub seenOf : Reply → Bytes → Seen
-seenOf (Refused r) buffer = edge (refusalNumber r)
-seenOf (Response n) buffer = shows (take (n - 2) buffer) (replyStatus (Response n) buffer)
-seenOf (HandedOut kind key) buffer = hands (kindNumber kind) key (take 256 buffer)
-seenOf WasReset buffer = isReset
+abbrev pub seenOf : Returned → Bytes → Seen
+seenOf (edge n) buffer = refuses n
+seenOf (responded n) buffer = shows (take (n - 2) buffer) (returnedStatus (responded n) buffer)
+seenOf (handedOut kind key) buffer = hands kind key (take 256 buffer)
+seenOf wasReset buffer = isReset
 
 abbrev pub codeSeen : Card → ℕ → Seen
-codeSeen c k = code k (codeOf c k .tries) (codeOf c k .verified)
+codeSeen c k = code k (codeOf (c .codes) k .tries) (codeOf (c .codes) k .verified)
 
 -- Calls from a card: what each shows, and then the three codes.
 unfoldable pub onCard : Card → List Call → List Seen
 onCard c calls =
-    map (λ e. seenOf (e .reply) (e .buffer)) (trace c calls)
+    map (λ e. seenOf (e .returned) (e .buffer)) (trace c calls)
     ++ codeSeen (after c calls) PUK ∷ codeSeen (after c calls) PIN1 ∷ codeSeen (after c calls) PIN2 ∷ []
 
 abbrev pub onSample : List Call → List Seen
@@ -49,7 +46,7 @@ onSample = onCard sampleCard
 
 -- The number of load.
 unfoldable pub loading : Bytes → List Seen
-loading image = loads (loadNumber (load image .result)) ∷ []
+loading image = loads (load image .0) ∷ []
 
 -- How many bytes FF a string starts with.
 abbrev pub countFF : Bytes → ℕ

@@ -1,62 +1,84 @@
--- Document 01, "Order of judgement for a command", step 7: VERIFY, CHANGE REFERENCE DATA and RESET RETRY COUNTER.
+-- Document 01, "Order of judgement for a command", step 7: VERIFY, CHANGE REFERENCE DATA and RESET RETRY COUNTER. They change nothing but
+-- the codes, and answer by a status word alone.
 use Prim.Native.Nat.{ℕ, _+_, _-_}
 use mathlib.Core.Bool.{true, false, cond, not}
+use mathlib.Core.List.{List}
 use lib.ListN.{take, drop}
 use lib.Dec.{eqb}
 use Rattle.octets.specs.Octets.{Bytes, same}
-use Rattle.rules.specs.declared.Card.{Card}
+use Rattle.rules.specs.declared.Code.{Code}
+use Rattle.rules.specs.declared.CodeStep.{CodeStep}
 use Rattle.rules.specs.declared.Header.{Header}
+use Rattle.rules.specs.declared.Verdict.{Verdict}
+use Rattle.rules.specs.declared.Verdict.the-variants.{Right, Wrong, NoTries}
 use Rattle.rules.specs.Codes.{PUK, fullTries, allowed, value, storing, marked, codeOf, withCode, closed}
-use Rattle.rules.specs.Answers.{Step, status}
+use Rattle.rules.specs.Answers.{codeStatus}
 
--- A value presented for code k is judged. No tries 6983. Wrong, by value or by length: one try less, mark off, 63Cx with x left.
--- Right: what follows.
-unfoldable pub judged : Card → ℕ → Bytes → Step → Step
-judged c k presented ifRight =
-    cond (eqb (codeOf c k .tries) 0) (status c 0x6983)
-    (cond (same presented (value (codeOf c k)))
-    ifRight
-    (status (withCode c k (marked (codeOf c k) (codeOf c k .tries - 1) false)) (0x63C0 + (codeOf c k .tries - 1))))
+-- A new value not of allowed length or not digits: 6A80. Unblocking a PIN that has tries: 6A86.
+abbrev pub notAllowed : ℕ
+notAllowed = 0x6A80
 
--- 20 VERIFY. Right: tries 3, mark on, 9000.
-unfoldable pub verify : Card → Header → Bytes → Step
-verify c h d =
+abbrev pub hasTries : ℕ
+hasTries = 0x6A86
+
+-- A presented value is judged: no tries; right; wrong, by value or by length.
+unfoldable pub verdict : Code → Bytes → Verdict
+verdict v presented =
+    cond (eqb (v .tries) 0) NoTries
+    (cond (same presented (value v)) Right
+    Wrong)
+
+-- What follows for code k. Right: tries 3, mark on, 9000. Wrong: one try less, mark off, 63Cx with x left. No tries: 6983.
+unfoldable pub judged : List Code → ℕ → Verdict → CodeStep
+judged codes k Right = codeStatus (withCode codes k (marked (codeOf codes k) fullTries true)) 0x9000
+judged codes k Wrong =
+    codeStatus (withCode codes k (marked (codeOf codes k) (codeOf codes k .tries - 1) false)) (0x63C0 + (codeOf codes k .tries - 1))
+judged codes k NoTries = codeStatus codes 0x6983
+
+-- 20 VERIFY.
+unfoldable pub verify : List Code → Header → Bytes → CodeStep
+verify codes h d =
     let k = h .p2 in
-    judged c k d (status (withCode c k (marked (codeOf c k) fullTries true)) 0x9000)
+    judged codes k (verdict (codeOf codes k) d)
 
 -- The data of CHANGE and of RESET RETRY with P1 00: a value as long as the stored one of code k, then a new value.
-abbrev pub oldValue : Card → ℕ → Bytes → Bytes
-oldValue c k d = take (codeOf c k .len) d
+abbrev pub oldValue : List Code → ℕ → Bytes → Bytes
+oldValue codes k d = take (codeOf codes k .len) d
 
-abbrev pub newValue : Card → ℕ → Bytes → Bytes
-newValue c k d = drop (codeOf c k .len) d
+abbrev pub newValue : List Code → ℕ → Bytes → Bytes
+newValue codes k d = drop (codeOf codes k .len) d
 
--- 24 CHANGE. Old wrong or short: as VERIFY. New not of allowed length or not digits: 6A80, codes unchanged.
--- Else new stored, tries 3, mark off, 9000.
-unfoldable pub change : Card → Header → Bytes → Step
-change c h d =
+-- The value of code k was judged, and a new value for code j stands behind it. Wrong or no tries: as VERIFY. Right, and the new value not
+-- of allowed length or not digits: 6A80, codes unchanged. Else the codes with the new value stored, and 9000.
+unfoldable pub replaced : List Code → ℕ → ℕ → Bytes → List Code → Verdict → CodeStep
+replaced codes k j new stored Right = cond (not (allowed j new)) (codeStatus codes notAllowed) (codeStatus stored 0x9000)
+replaced codes k j new stored Wrong = judged codes k Wrong
+replaced codes k j new stored NoTries = judged codes k NoTries
+
+-- 24 CHANGE. New stored, tries 3, mark off.
+unfoldable pub change : List Code → Header → Bytes → CodeStep
+change codes h d =
     let k = h .p2 in
-    judged c k (oldValue c k d)
-    (cond (not (allowed k (newValue c k d))) (status c 0x6A80)
-    (status (withCode c k (storing (newValue c k d) fullTries false)) 0x9000))
+    let new = newValue codes k d in
+    replaced codes k k new (withCode codes k (storing new fullTries false)) (verdict (codeOf codes k) (oldValue codes k d))
 
 -- 2C with P1 03. PUK not verified 6982; else tries 3, PIN and PUK marks off, 9000.
-unfoldable pub unblockByVerifiedPuk : Card → ℕ → Step
-unblockByVerifiedPuk c pin =
-    cond (not (codeOf c PUK .verified)) (status c 0x6982)
-    (status (closed (withCode c pin (marked (codeOf c pin) fullTries false)) PUK) 0x9000)
+unfoldable pub unblockByVerifiedPuk : List Code → ℕ → CodeStep
+unblockByVerifiedPuk codes pin =
+    cond (not (codeOf codes PUK .verified)) (codeStatus codes 0x6982)
+    (codeStatus (closed (withCode codes pin (marked (codeOf codes pin) fullTries false)) PUK) 0x9000)
 
--- 2C with P1 00. PUK judged as the old value in CHANGE; bad new PIN 6A80, codes unchanged;
--- else PIN stored, both tries 3, both marks off, 9000.
-unfoldable pub unblockByPresentedPuk : Card → ℕ → Bytes → Step
-unblockByPresentedPuk c pin d =
-    judged c PUK (oldValue c PUK d)
-    (cond (not (allowed pin (newValue c PUK d))) (status c 0x6A80)
-    (status (withCode (withCode c pin (storing (newValue c PUK d) fullTries false)) PUK (marked (codeOf c PUK) fullTries false)) 0x9000))
+-- 2C with P1 00. PUK judged as the old value in CHANGE; PIN stored, both tries 3, both marks off.
+unfoldable pub unblockByPresentedPuk : List Code → ℕ → Bytes → CodeStep
+unblockByPresentedPuk codes pin d =
+    let new = newValue codes PUK d in
+    let stored = withCode (withCode codes pin (storing new fullTries false)) PUK (marked (codeOf codes PUK) fullTries false) in
+    replaced codes PUK pin new stored (verdict (codeOf codes PUK) (oldValue codes PUK d))
 
--- 2C RESET RETRY. PIN has tries: 6A86.
-unfoldable pub resetRetry : Card → Header → Bytes → Step
-resetRetry c h d =
+-- 2C RESET RETRY. PIN has tries: 6A86. P1 03, and P1 00 (the last row).
+unfoldable pub resetRetry : List Code → Header → Bytes → CodeStep
+resetRetry codes h d =
     let pin = h .p2 in
-    cond (not (eqb (codeOf c pin .tries) 0)) (status c 0x6A86)
-    (cond (eqb (h .p1) 0x03) (unblockByVerifiedPuk c pin) (unblockByPresentedPuk c pin d))
+    cond (not (eqb (codeOf codes pin .tries) 0)) (codeStatus codes hasTries)
+    (cond (eqb (h .p1) 0x03) (unblockByVerifiedPuk codes pin)
+    (unblockByPresentedPuk codes pin d))

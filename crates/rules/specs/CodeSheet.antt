@@ -8,15 +8,14 @@ use lib.ListN.{length, take, drop}
 use lib.Dec.{eqb}
 use Rattle.octets.specs.Octets.{Bytes, same}
 use Rattle.rules.specs.declared.Card.{Card}
-use Rattle.rules.specs.declared.Outcome.{Outcome}
 use Rattle.rules.specs.declared.Header.{Header}
-use Rattle.rules.specs.declared.Parsed.{Parsed}
-use Rattle.rules.specs.declared.Parsed.the-variants.{Form, Malformed}
-use Rattle.rules.specs.declared.Reply.{Reply}
-use Rattle.rules.specs.declared.Reply.the-variants.{Refused, Response, HandedOut, WasReset}
+use Rattle.rules.specs.declared.JobKind.the-variants.{Authenticate, Decipher}
+use Rattle.rules.specs.Numbers.{kindNumber, Returned, edge, responded, handedOut, wasReset}
 use Rattle.rules.specs.Codes.{PUK, PIN1, PIN2, fullTries, value, codeOf}
-use Rattle.rules.specs.Apdu.{parse, dataOf}
-use Rattle.rules.specs.Counting.{Call, Command, Delivery, PowerReset, Exchange, step, exchangeOf, statusWord, okStatus, changes, unblocks, presentsPuk, answers, wrongAnswer, restoration, unblocking, rightVerify, handsJob, handsSignature}
+use Rattle.rules.specs.Edge.{Result}
+use Rattle.rules.specs.Counting.{Call, Exchange, step, exchangeOf, statusWord, sentBy, readOff, dataSent, okStatus}
+use Rattle.rules.specs.Counting.{changes, unblocks, presentsPuk, answers, wrongAnswer, restoration, unblocking}
+use Rattle.rules.specs.Counting.{rightVerify, handsJob, handsSignature}
 
 -- 9000 to a CHANGE of code k.
 abbrev pub changed : ℕ → Exchange → Bool
@@ -34,11 +33,11 @@ abbrev pub storesPin : ℕ → Header → Bool
 storesPin k h = unblocks k h && presentsPuk h
 
 -- A power reset that was done.
-unfoldable pub wasReset : Reply → Bool
-wasReset (Refused r) = false
-wasReset (Response n) = false
-wasReset (HandedOut kind key) = false
-wasReset WasReset = true
+unfoldable pub resetDone : Returned → Bool
+resetDone (edge n) = false
+resetDone (responded n) = false
+resetDone (handedOut kind key) = false
+resetDone wasReset = true
 
 -- Only a right VERIFY opens a code.
 unfoldable pub opens : ℕ → Exchange → Bool
@@ -51,9 +50,9 @@ closes k e =
     wrongAnswer k e
     || changed k e
     || unblocking k e
-    || eqb k PUK && anyUnblocked e
-    || eqb k PIN2 && handsSignature e
-    || wasReset (e .reply)
+    || (eqb k PUK && anyUnblocked e)
+    || (eqb k PIN2 && handsSignature e)
+    || resetDone (e .returned)
 
 -- The mark after a call: on if the call opens the code, or if it was on and the call does not close the code.
 abbrev pub verifiedAfter : ℕ → Exchange → Bool → Bool
@@ -63,16 +62,6 @@ verifiedAfter k e verified = opens k e || (not (closes k e) && verified)
 abbrev pub triesAfter : ℕ → Exchange → ℕ → ℕ
 triesAfter k e tries = cond (wrongAnswer k e) (tries - 1) (cond (restoration k e || unblocking k e) fullTries tries)
 
--- The data of a command.
-abbrev pub formData : Bytes → Parsed → Bytes
-formData apdu (Form h) = dataOf apdu h
-formData apdu Malformed = []
-
-abbrev pub dataSent : Call → Bytes
-dataSent (Command apdu authentication signature buffer) = formData apdu (parse apdu)
-dataSent (Delivery result buffer) = []
-dataSent PowerReset = []
-
 -- The stored value after a call: what follows the old value in a CHANGE, what follows the PUK in a RESET RETRY with P1 00,
 -- each where it was answered 9000; else as before.
 abbrev pub valueAfter : ℕ → Exchange → Bytes → Bytes → Bytes
@@ -80,18 +69,13 @@ valueAfter k e puk stored =
     cond (changed k e) (drop (length stored) (dataSent (e .call)))
     (cond (answers okStatus (storesPin k) e) (drop (length puk) (dataSent (e .call))) stored)
 
--- The value that a command presents for a code: a VERIFY's data; of a CHANGE, or of a RESET RETRY with P1 00, as many bytes as the stored value has.
-abbrev pub presentedBy : Header → Bytes → Bytes → Bytes
-presentedBy h stored d = cond (eqb (h .ins) 0x20) d (take (length stored) d)
-
-abbrev pub formPresents : Bytes → Bytes → Parsed → Bytes
-formPresents stored apdu (Form h) = presentedBy h stored (dataOf apdu h)
-formPresents stored apdu Malformed = []
+-- The value that a call presents for a code: a VERIFY's data; of a CHANGE, or of a RESET RETRY with P1 00, as many bytes as the stored
+-- value has.
+abbrev pub presentedBy : Bytes → Header → Bytes → Bytes
+presentedBy stored h d = cond (eqb (h .ins) 0x20) d (take (length stored) d)
 
 abbrev pub presentedIn : Bytes → Call → Bytes
-presentedIn stored (Command apdu authentication signature buffer) = formPresents stored apdu (parse apdu)
-presentedIn stored (Delivery result buffer) = []
-presentedIn stored PowerReset = []
+presentedIn stored x = readOff (presentedBy stored) [] (sentBy x)
 
 -- A RESET RETRY with P1 03.
 abbrev pub byVerifiedPuk : Header → Bool
@@ -99,27 +83,29 @@ byVerifiedPuk h = eqb (h .ins) 0x2C && eqb (h .p1) 0x03
 
 -- A job that uses PIN1: of kind 1 or 3.
 abbrev pub handsPin1Job : Exchange → Bool
-handsPin1Job e = handsJob 1 e || handsJob 3 e
+handsPin1Job e = handsJob (kindNumber Authenticate) e || handsJob (kindNumber Decipher) e
 
 -- The sheet: code k before and after a call x on the card c that gave o.
-pub record Sheet (k : ℕ) (c : Card) (x : Call) (o : Outcome × Bytes) : Type 0 where
-  pub verified : codeOf (o .0 .card) k .verified ≡ verifiedAfter k (exchangeOf x o) (codeOf c k .verified)
-  pub tries : codeOf (o .0 .card) k .tries ≡ triesAfter k (exchangeOf x o) (codeOf c k .tries)
-  pub stored : value (codeOf (o .0 .card) k) ≡ valueAfter k (exchangeOf x o) (value (codeOf c PUK)) (value (codeOf c k))
+pub record Sheet (k : ℕ) (c : Card) (x : Call) (o : Result) : Type 0 where
+  pub verified : codeOf (o .card .codes) k .verified ≡ verifiedAfter k (exchangeOf x o) (codeOf (c .codes) k .verified)
+  pub tries : codeOf (o .card .codes) k .tries ≡ triesAfter k (exchangeOf x o) (codeOf (c .codes) k .tries)
+  pub stored : value (codeOf (o .card .codes) k)
+      ≡ valueAfter k (exchangeOf x o) (value (codeOf (c .codes) PUK)) (value (codeOf (c .codes) k))
   -- right means the stored value, whole; wrong means another
-  pub rightly : restoration k (exchangeOf x o) ≡ true → presentedIn (value (codeOf c k)) x ≡ value (codeOf c k)
-  pub wrongly : wrongAnswer k (exchangeOf x o) ≡ true → same (presentedIn (value (codeOf c k)) x) (value (codeOf c k)) ≡ false
+  pub rightly : restoration k (exchangeOf x o) ≡ true → presentedIn (value (codeOf (c .codes) k)) x ≡ value (codeOf (c .codes) k)
+  pub wrongly : wrongAnswer k (exchangeOf x o) ≡ true
+      → same (presentedIn (value (codeOf (c .codes) k)) x) (value (codeOf (c .codes) k)) ≡ false
   -- 63Cx says how many tries are left
-  pub wrong : wrongAnswer k (exchangeOf x o) ≡ true → statusWord (exchangeOf x o) ≡ 0x63C0 + codeOf (o .0 .card) k .tries
+  pub wrong : wrongAnswer k (exchangeOf x o) ≡ true → statusWord (exchangeOf x o) ≡ 0x63C0 + codeOf (o .card .codes) k .tries
   -- a code with no tries left is judged neither wrong nor right; only such a PIN is unblocked
-  pub judged : wrongAnswer k (exchangeOf x o) ≡ true → 1 ≤ codeOf c k .tries
-  pub restored : restoration k (exchangeOf x o) ≡ true → 1 ≤ codeOf c k .tries
-  pub unblocked : unblocking k (exchangeOf x o) ≡ true → codeOf c k .tries ≡ 0
+  pub hadTries : wrongAnswer k (exchangeOf x o) ≡ true → 1 ≤ codeOf (c .codes) k .tries
+  pub restored : restoration k (exchangeOf x o) ≡ true → 1 ≤ codeOf (c .codes) k .tries
+  pub unblocked : unblocking k (exchangeOf x o) ≡ true → codeOf (c .codes) k .tries ≡ 0
   -- an unblocking with P1 03 happens only while PUK is verified
-  pub pukUsed : answers okStatus byVerifiedPuk (exchangeOf x o) ≡ true → codeOf c PUK .verified ≡ true
+  pub pukUsed : answers okStatus byVerifiedPuk (exchangeOf x o) ≡ true → codeOf (c .codes) PUK .verified ≡ true
   -- jobs 1 and 3 are handed out only while PIN1 is verified, a signature only while PIN2 is
-  pub pin1Used : handsPin1Job (exchangeOf x o) ≡ true → codeOf c PIN1 .verified ≡ true
-  pub signed : handsSignature (exchangeOf x o) ≡ true → codeOf c PIN2 .verified ≡ true
+  pub pin1Used : handsPin1Job (exchangeOf x o) ≡ true → codeOf (c .codes) PIN1 .verified ≡ true
+  pub signed : handsSignature (exchangeOf x o) ≡ true → codeOf (c .codes) PIN2 .verified ≡ true
 
 -- For each code, every card, good or not, and every call.
 abbrev pub CodeSheet : Type 0

@@ -1,12 +1,12 @@
 -- Document 01, "What the card has": the three codes (reference data), their limits and their retry counters.
 -- "Tries left" is document 01's term for the retry counter, "verified mark" for the verified state of a code.
-use Prim.Native.Nat.{ℕ, _-_}
+use Prim.Native.Nat.{ℕ}
 use mathlib.Core.Bool.{Bool, false, cond, _&&_}
+use mathlib.Core.List.{List}
 use lib.ListN.{length, take, getD, set}
 use lib.Dec.{eqb, leb}
 use Rattle.octets.specs.Octets.{Bytes, allDigits, blank, filled}
 use Rattle.rules.specs.declared.Code.{Code}
-use Rattle.rules.specs.declared.Card.{Card}
 
 -- The code numbers.
 abbrev pub PUK : ℕ
@@ -18,9 +18,12 @@ PIN1 = 1
 abbrev pub PIN2 : ℕ
 PIN2 = 2
 
--- The least length: PUK 8, PIN1 4, PIN2 5.
+-- The least length: PUK 8, PIN1 4, PIN2 (the last row) 5.
 unfoldable pub least : ℕ → ℕ
-least k = cond (eqb k PUK) 8 (cond (eqb k PIN1) 4 5)
+least k =
+    cond (eqb k PUK) 8
+    (cond (eqb k PIN1) 4
+    5)
 
 -- The greatest length of each code.
 abbrev pub most : ℕ
@@ -48,17 +51,16 @@ marked v tries verified = record { digits = v .digits; len = v .len; tries = tri
 
 -- A code of all zeros: in the all-zero state, and what stands where there is no code.
 abbrev pub zeroCode : Code
-zeroCode = record { digits = blank 12; len = 0; tries = 0; verified = false }
+zeroCode = record { digits = blank most; len = 0; tries = 0; verified = false }
 
--- Code k of the card.
-abbrev pub codeOf : Card → ℕ → Code
-codeOf c k = getD (c .codes) k zeroCode
+-- Code k of the three.
+abbrev pub codeOf : List Code → ℕ → Code
+codeOf codes k = getD codes k zeroCode
 
--- The card with code k replaced.
-abbrev pub withCode : Card → ℕ → Code → Card
-withCode c k v =
-    record { codes = set (c .codes) k v; keys = c .keys; references = c .references; personal = c .personal; session = c .session }
+-- The codes with code k replaced.
+abbrev pub withCode : List Code → ℕ → Code → List Code
+withCode codes k v = set codes k v
 
 -- Code k's verified mark goes off.
-abbrev pub closed : Card → ℕ → Card
-closed c k = withCode c k (marked (codeOf c k) (codeOf c k .tries) false)
+abbrev pub closed : List Code → ℕ → List Code
+closed codes k = withCode codes k (marked (codeOf codes k) (codeOf codes k .tries) false)

@@ -8,16 +8,13 @@ use lib.Dec.{eqb, leb}
 use Rattle.octets.specs.Octets.{Bytes, byteAt, word, allBytes}
 use Rattle.rules.specs.declared.Card.{Card}
 use Rattle.rules.specs.declared.Header.{Header}
-use Rattle.rules.specs.declared.Parsed.{Parsed}
-use Rattle.rules.specs.declared.Parsed.the-variants.{Form, Malformed}
-use Rattle.rules.specs.declared.Outcome.{Outcome}
-use Rattle.rules.specs.declared.Reply.{Reply}
-use Rattle.rules.specs.declared.Reply.the-variants.{Refused, Response, HandedOut, WasReset}
+use Rattle.rules.specs.declared.JobKind.the-variants.{Sign}
+use Rattle.rules.specs.Numbers.{kindNumber, Returned, edge, responded, handedOut, wasReset, LengthForm, form}
+use Rattle.rules.specs.Numbers.{refused}
 use Rattle.rules.specs.Codes.{PUK, PIN2}
-use Rattle.rules.specs.Keys.{kindNumber}
-use Rattle.rules.specs.Apdu.{parse}
+use Rattle.rules.specs.Apdu.{parse, dataOf}
 use Rattle.rules.specs.Judgement.{hasData}
-use Rattle.rules.specs.Edge.{command, delivery, powerReset}
+use Rattle.rules.specs.Edge.{Result, command, delivery, powerReset}
 
 -- A call with all that its caller brings. A command brings its bytes, the authentication certificate, the signature certificate
 -- and the buffer; a delivery its result and the buffer.
@@ -26,24 +23,24 @@ pub data Call : Type 0 where
   Delivery : Bytes → Bytes → Call
   PowerReset : Call
 
--- What a call gives: the outcome, and the buffer as it leaves it.
-unfoldable pub step : Card → Call → Outcome × Bytes
+-- What a call gives. A power reset has no buffer.
+unfoldable pub step : Card → Call → Result
 step c (Command apdu authentication signature buffer) = command c apdu authentication signature buffer
 step c (Delivery result buffer) = delivery c result buffer
-step c PowerReset = (powerReset c, [])
+step c PowerReset = record { returned = powerReset c .0; card = powerReset c .1; buffer = [] }
 
 -- A call, what it returned and what it wrote: all that is counted from.
 pub record Exchange : Type 0 where
   pub call : Call
-  pub reply : Reply
+  pub returned : Returned
   pub buffer : Bytes
 
 -- The card after a call.
 abbrev pub next : Card → Call → Card
-next c x = step c x .0 .card
+next c x = step c x .card
 
-abbrev pub exchangeOf : Call → Outcome × Bytes → Exchange
-exchangeOf x o = record { call = x; reply = o .0 .reply; buffer = o .1 }
+abbrev pub exchangeOf : Call → Result → Exchange
+exchangeOf x o = record { call = x; returned = o .returned; buffer = o .buffer }
 
 abbrev pub exchange : Card → Call → Exchange
 exchange c x = exchangeOf x (step c x)
@@ -58,31 +55,48 @@ trace c [] = []
 trace c (x ∷ xs) = exchange c x ∷ trace (next c x) xs
 
 -- The status word of a response: its last two bytes. 0 where a call returned no response.
-unfoldable pub replyStatus : Reply → Bytes → ℕ
-replyStatus (Refused r) buffer = 0
-replyStatus (Response n) buffer = word (byteAt buffer (n - 2)) (byteAt buffer (n - 1))
-replyStatus (HandedOut kind key) buffer = 0
-replyStatus WasReset buffer = 0
+unfoldable pub returnedStatus : Returned → Bytes → ℕ
+returnedStatus (edge n) buffer = 0
+returnedStatus (responded n) buffer = word (byteAt buffer (n - 2)) (byteAt buffer (n - 1))
+returnedStatus (handedOut kind key) buffer = 0
+returnedStatus wasReset buffer = 0
 
 abbrev pub statusWord : Exchange → ℕ
-statusWord e = replyStatus (e .reply) (e .buffer)
+statusWord e = returnedStatus (e .returned) (e .buffer)
 
 -- The kind of a job that was handed out; 0 where there was none.
-unfoldable pub replyKind : Reply → ℕ
-replyKind (Refused r) = 0
-replyKind (Response n) = 0
-replyKind (HandedOut kind key) = kindNumber kind
-replyKind WasReset = 0
+unfoldable pub returnedKind : Returned → ℕ
+returnedKind (edge n) = 0
+returnedKind (responded n) = 0
+returnedKind (handedOut kind key) = kind
+returnedKind wasReset = 0
+
+-- What a call's bytes send: the header and the data of a command of good length form; nothing in any other call.
+pub data Sent : Type 0 where
+  sent : Header → Bytes → Sent
+  nothing : Sent
+
+unfoldable pub formSends : Bytes → LengthForm → Sent
+formSends apdu (form h start) = sent h (dataOf apdu start h)
+formSends apdu (refused sw) = nothing
+
+unfoldable pub sentBy : Call → Sent
+sentBy (Command apdu authentication signature buffer) = formSends apdu (parse apdu)
+sentBy (Delivery result buffer) = nothing
+sentBy PowerReset = nothing
+
+-- What is read off them, or else a default.
+unfoldable pub readOff : {A : Type 0} → (Header → Bytes → A) → A → Sent → A
+readOff read none (sent h d) = read h d
+readOff read none nothing = none
 
 -- A command whose header passes a test.
-unfoldable pub formIs : (Header → Bool) → Parsed → Bool
-formIs test (Form h) = test h
-formIs test Malformed = false
+abbrev pub isCommand : (Header → Bool) → Call → Bool
+isCommand test x = readOff (λ h d. test h) false (sentBy x)
 
-unfoldable pub isCommand : (Header → Bool) → Call → Bool
-isCommand test (Command apdu authentication signature buffer) = formIs test (parse apdu)
-isCommand test (Delivery result buffer) = false
-isCommand test PowerReset = false
+-- The data that a call sends.
+abbrev pub dataSent : Call → Bytes
+dataSent x = readOff (λ h d. d) [] (sentBy x)
 
 -- 63Cx, and 9000.
 unfoldable pub wrongStatus : ℕ → Bool
@@ -106,7 +120,7 @@ unblocks k h = eqb (h .ins) 0x2C && (eqb (h .p1) 0x00 || eqb (h .p1) 0x03) && eq
 
 -- A command that presents a value for code k.
 unfoldable pub presents : ℕ → Header → Bool
-presents k h = verifies k h || changes k h || eqb k PUK && presentsPuk h
+presents k h = verifies k h || changes k h || (eqb k PUK && presentsPuk h)
 
 -- A command that passes a test, answered by a status word that passes another.
 abbrev pub answers : (ℕ → Bool) → (Header → Bool) → Exchange → Bool
@@ -125,18 +139,18 @@ unblocking k = answers okStatus (unblocks k)
 abbrev pub rightVerify : ℕ → Exchange → Bool
 rightVerify k = answers okStatus (verifies k)
 
--- A job of a kind number that a command returned.
+-- A job of a kind that a command returned.
 abbrev pub byCommand : Call → Bool
 byCommand (Command apdu authentication signature buffer) = true
 byCommand (Delivery result buffer) = false
 byCommand PowerReset = false
 
 abbrev pub handsJob : ℕ → Exchange → Bool
-handsJob kind e = eqb (replyKind (e .reply)) kind && byCommand (e .call)
+handsJob kind e = eqb (returnedKind (e .returned)) kind && byCommand (e .call)
 
 -- A signature handed to the key host: a job of kind 2 that a command returned.
 abbrev pub handsSignature : Exchange → Bool
-handsSignature = handsJob 2
+handsSignature = handsJob (kindNumber Sign)
 
 -- How many exchanges of a sequence pass a test.
 abbrev pub one : Bool → ℕ
@@ -164,7 +178,8 @@ signatures = number handsSignature
 
 -- Calls that a caller can make: every number in them is a byte.
 abbrev pub ofBytes : Call → Bool
-ofBytes (Command apdu authentication signature buffer) = allBytes apdu && allBytes authentication && allBytes signature && allBytes buffer
+ofBytes (Command apdu authentication signature buffer) =
+    allBytes apdu && allBytes authentication && allBytes signature && allBytes buffer
 ofBytes (Delivery result buffer) = allBytes result && allBytes buffer
 ofBytes PowerReset = true
 

@@ -6,7 +6,7 @@ use Rattle.octets.specs.Octets.{Bytes}
 use Rattle.pkcs1.specs.Pkcs1.{strip}
 use Rattle.rules.specs.declared.Session.{Session}
 use Rattle.rules.specs.declared.JobKind.the-variants.{Decipher}
-use Rattle.rules.specs.Keys.{kindNumber}
+use Rattle.rules.specs.Numbers.{kindNumber}
 use Rattle.rules.specs.Session.{noJob, withJob}
 use Rattle.rules.specs.Answers.{SessionStep, sessionStatus, give}
 

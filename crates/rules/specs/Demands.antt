@@ -1,24 +1,26 @@
 -- The demands as statements over the rules. Their proofs stand in proofs/.
 use Prim.Native.Nat.{ℕ, _+_, _*_, _/_, _≤_, _<_}
 use mathlib.Core.Path.{_≡_}
-use mathlib.Core.Bool.{Bool, true, false, not, _&&_}
-use mathlib.Core.List.{List, [], _∷_}
+use mathlib.Core.Logic.{_↔_}
+use mathlib.Core.Bool.{Bool, true, false, cond, not, _&&_}
+use mathlib.Core.List.{List, [], _∷_, _++_}
 use lib.ListN.{length, drop}
 use lib.Dec.{eqb}
 use Rattle.octets.specs.Octets.{Bytes}
+use Rattle.pkcs1.specs.Pkcs1.{padded}
 use Rattle.rules.specs.declared.Card.{Card}
-use Rattle.rules.specs.declared.Fault.{Fault}
-use Rattle.rules.specs.declared.JobKind.{JobKind}
-use Rattle.rules.specs.declared.LoadResult.the-variants.{Accepted, Faulty}
-use Rattle.rules.specs.declared.Refusal.{Refusal}
-use Rattle.rules.specs.declared.Refusal.the-variants.{BadState}
-use Rattle.rules.specs.declared.Reply.the-variants.{Refused, Response, HandedOut}
+use Rattle.rules.specs.declared.JobKind.the-variants.{Decipher}
+use Rattle.rules.specs.declared.Session.{Session}
+use Rattle.rules.specs.Numbers.{kindNumber, Returned, edge, responded, handedOut, wasReset, refused}
 use Rattle.rules.specs.Codes.{PUK, codeOf}
-use Rattle.rules.specs.Session.{newSession}
+use Rattle.rules.specs.Session.{chainBytes, newSession}
 use Rattle.rules.specs.State.{good}
-use Rattle.rules.specs.Edge.{refused, replyValues}
-use Rattle.rules.specs.Image.{load, zeroCard, faultNumber}
-use Rattle.rules.specs.Counting.{Call, Command, Delivery, PowerReset, step, next, exchange, trace, statusWord, wrongAnswers, restorations, unblockings, signatures, pin2Presentations, ofBytes, allOfBytes, triesAtLoad}
+use Rattle.rules.specs.Apdu.{parse}
+use Rattle.rules.specs.Edge.{refuse}
+use Rattle.rules.specs.Image.{load, zeroCard}
+use Rattle.rules.specs.Counting.{Call, Command, Delivery, PowerReset, step, next, exchange, trace, statusWord}
+use Rattle.rules.specs.Counting.{dataSent, wrongAnswers, restorations, unblockings, signatures, pin2Presentations}
+use Rattle.rules.specs.Counting.{ofBytes, allOfBytes, triesAtLoad}
 
 -- The buffer that a call brings.
 abbrev pub bufferOf : Call → Bytes
@@ -26,43 +28,98 @@ bufferOf (Command apdu authentication signature buffer) = buffer
 bufferOf (Delivery result buffer) = buffer
 bufferOf PowerReset = []
 
+-- A buffer that is long enough, and a certificate that is neither empty nor too long.
+abbrev pub Room : Bytes → Type 0
+Room buffer = 258 ≤ length buffer
+
+abbrev pub Lent : Bytes → Type 0
+Lent certificate = (1 ≤ length certificate) × (length certificate ≤ 1536)
+
+-- Whether no job waits on a card.
+abbrev pub Idle : Card → Type 0
+Idle c = c .session .job .kind ≡ 0
+
+-- When each edge refusal is due, with all that must hold for none before it to be due.
+pub data Due (c : Card) : Call → ℕ → Type 0 where
+  badState : (x : Call) → good c ≡ false → Due c x 1
+  commandBuffer : (apdu authentication signature buffer : Bytes) → good c ≡ true → length buffer < 258
+      → Due c (Command apdu authentication signature buffer) 2
+  deliveryBuffer : (result buffer : Bytes) → good c ≡ true → length buffer < 258 → Due c (Delivery result buffer) 2
+  authenticationCertificate : (apdu authentication signature buffer : Bytes) → good c ≡ true → Room buffer
+      → ¬ Lent authentication → Due c (Command apdu authentication signature buffer) 3
+  signatureCertificate : (apdu authentication signature buffer : Bytes) → good c ≡ true → Room buffer
+      → ¬ Lent signature → Due c (Command apdu authentication signature buffer) 3
+  jobWaiting : (apdu authentication signature buffer : Bytes) → good c ≡ true → Room buffer
+      → Lent authentication → Lent signature → ¬ Idle c → Due c (Command apdu authentication signature buffer) 4
+  noJobWaiting : (result buffer : Bytes) → good c ≡ true → Room buffer → Idle c → Due c (Delivery result buffer) 5
+
+-- What each call can return at all.
+pub data Possible : Call → Returned → Type 0 where
+  refusal : (x : Call) (n : ℕ) → Possible x (edge n)
+  commandResponse : (apdu authentication signature buffer : Bytes) (n : ℕ) → 2 ≤ n → n ≤ 258
+      → Possible (Command apdu authentication signature buffer) (responded n)
+  commandJob : (apdu authentication signature buffer : Bytes) (kind key : ℕ) → 1 ≤ kind → kind ≤ 3
+      → Possible (Command apdu authentication signature buffer) (handedOut kind key)
+  deliveryResponse : (result buffer : Bytes) (n : ℕ) → 2 ≤ n → n ≤ 258 → Possible (Delivery result buffer) (responded n)
+  reset : Possible PowerReset wasReset
+
+-- The block of a job for the key host, handed out in a session for some data: of kinds 1 and 2 the data, padded; of kind 3 the last 256 of
+-- the bytes joined.
+abbrev pub blockOf : Session → Bytes → ℕ → Bytes
+blockOf s d kind =
+    cond (eqb kind (kindNumber Decipher)) (drop 1 (chainBytes s ++ d))
+    (padded d)
+
 -- A status word that refuses: any but 9000 and 61xx.
 abbrev pub refusalStatus : ℕ → Bool
 refusalStatus sw = not (eqb sw 0x9000) && not (eqb (sw / 256) 0x61)
 
 -- Demand 1, of one call on one card.
 pub record Defined (c : Card) (x : Call) : Type 0 where
+  -- the edge refuses exactly what is due, first in document 01's order
+  pub due : (n : ℕ) → (step c x .returned ≡ edge n) ↔ Due c x n
   -- a refusal by the edge changes neither the state nor one byte of the buffer
-  pub edge : (r : Refusal) → step c x .0 .reply ≡ Refused r → step c x ≡ refused c (bufferOf x) r
-  -- every call on a state that is not good is refused as 1
-  pub notGood : good c ≡ false → (step c x .0 .reply ≡ Refused BadState) × (replyValues (step c x .0 .reply) ≡ 1 ∷ [])
-  -- a response is 2 to 258 bytes, and nothing past them changes
-  pub response : (n : ℕ) → step c x .0 .reply ≡ Response n → (2 ≤ n) × (n ≤ 258) × (drop n (step c x .1) ≡ drop n (bufferOf x))
+  pub edge : (n : ℕ) → step c x .returned ≡ edge n → step c x ≡ refuse c (bufferOf x) n
+  -- what the call can return at all
+  pub possible : Possible x (step c x .returned)
+  -- past a response nothing changes
+  pub response : (n : ℕ) → step c x .returned ≡ responded n → drop n (step c x .buffer) ≡ drop n (bufferOf x)
   -- a refusal by status word writes that word and nothing else
-  pub refusal : (n : ℕ) → step c x .0 .reply ≡ Response n → refusalStatus (statusWord (exchange c x)) ≡ true → n ≡ 2
-  -- past the 256 bytes of a job nothing changes
-  pub job : (kind : JobKind) (key : ℕ) → step c x .0 .reply ≡ HandedOut kind key → drop 256 (step c x .1) ≡ drop 256 (bufferOf x)
+  pub refusal : (n : ℕ) → step c x .returned ≡ responded n → refusalStatus (statusWord (exchange c x)) ≡ true → n ≡ 2
+  -- a job writes its block of 256 bytes, and past it nothing changes
+  pub job : (kind key : ℕ) → step c x .returned ≡ handedOut kind key
+      → (length (blockOf (c .session) (dataSent x) kind) ≡ 256)
+      × (step c x .buffer ≡ blockOf (c .session) (dataSent x) kind ++ drop 256 (bufferOf x))
   -- the buffer keeps its length
-  pub sized : length (step c x .1) ≡ length (bufferOf x)
+  pub sized : length (step c x .buffer) ≡ length (bufferOf x)
 
-abbrev pub Demand1 : Type 0
-Demand1 = (c : Card) (x : Call) → ofBytes x ≡ true → Defined c x
+pub record Demand1 : Type 0 where
+  pub defined : (c : Card) (x : Call) → ofBytes x ≡ true → Defined c x
+  -- a command whose length form is wrong, and which the edge does not refuse, is answered 6700 alone
+  pub malformed : (c : Card) (apdu authentication signature buffer : Bytes) (sw : ℕ) → parse apdu ≡ refused sw
+      → ((n : ℕ) → ¬ Due c (Command apdu authentication signature buffer) n)
+      → (step c (Command apdu authentication signature buffer) .returned ≡ responded 2)
+      × (step c (Command apdu authentication signature buffer) .buffer ≡ 0x67 ∷ 0x00 ∷ drop 2 buffer)
+
+-- No call changes what load stored beside the codes: keys, the record of 0033h, personal records.
+abbrev pub ProfileKept : Type 0
+ProfileKept = (c : Card) (x : Call) → next c x .profile ≡ c .profile
 
 -- Good states: load gives one, every call keeps one, and the all-zero state is none.
 pub record GoodStates : Type 0 where
-  pub atLoad : (image : Bytes) → load image .result ≡ Accepted → good (load image .card) ≡ true
+  pub atLoad : (image : Bytes) → load image .0 ≡ 0 → good (load image .1) ≡ true
   pub kept : (c : Card) (x : Call) → ofBytes x ≡ true → good c ≡ true → good (next c x) ≡ true
   pub zero : good zeroCard ≡ false
 
 -- Images: one that loads has 84 to 1,115 bytes, and its card starts in a new session, with no code verified and the tries that the
 -- image gives; a refused one gives its number, from 21 to 27, beside the all-zero state.
 pub record Images : Type 0 where
-  pub read : (image : Bytes) → load image .result ≡ Accepted → (84 ≤ length image) × (length image ≤ 1115)
-  pub session : (image : Bytes) → load image .result ≡ Accepted → load image .card .session ≡ newSession
-  pub unverified : (image : Bytes) → load image .result ≡ Accepted → (k : ℕ) → k < 3 → codeOf (load image .card) k .verified ≡ false
-  pub tries : (image : Bytes) → load image .result ≡ Accepted → (k : ℕ) → k < 3 → codeOf (load image .card) k .tries ≡ triesAtLoad image k
-  pub refused : (image : Bytes) (f : Fault) → load image .result ≡ Faulty f
-      → (load image .card ≡ zeroCard) × (21 ≤ faultNumber f) × (faultNumber f ≤ 27)
+  pub read : (image : Bytes) → load image .0 ≡ 0 → (84 ≤ length image) × (length image ≤ 1115)
+  pub session : (image : Bytes) → load image .0 ≡ 0 → load image .1 .session ≡ newSession
+  pub unverified : (image : Bytes) → load image .0 ≡ 0 → (k : ℕ) → k < 3 → codeOf (load image .1 .codes) k .verified ≡ false
+  pub tries : (image : Bytes) → load image .0 ≡ 0 → (k : ℕ) → k < 3 → codeOf (load image .1 .codes) k .tries ≡ triesAtLoad image k
+  pub refused : (image : Bytes) → ¬ (load image .0 ≡ 0)
+      → (load image .1 ≡ zeroCard) × (21 ≤ load image .0) × (load image .0 ≤ 27)
 
 -- Calls of real bytes after which code k has exactly so many restorations, unblockings and wrong answers.
 pub record Reached (c : Card) (k r u w : ℕ) : Type 0 where
@@ -85,4 +142,4 @@ pub record Counted (image : Bytes) (c : Card) : Type 0 where
 
 -- Demand 3: one statement over every image that loads and any sequence of calls.
 abbrev pub Demand3 : Type 0
-Demand3 = (image : Bytes) → load image .result ≡ Accepted → Counted image (load image .card)
+Demand3 = (image : Bytes) → load image .0 ≡ 0 → Counted image (load image .1)

@@ -2,51 +2,45 @@
 -- for a refusal by the card's interface itself, before any rule of the card is applied.
 use Prim.Native.Nat.{ℕ, _+_, _/_, _%_}
 use mathlib.Core.Bool.{Bool, cond, not, _||_}
-use mathlib.Core.List.{List, [], _∷_, _++_}
+use mathlib.Core.List.{_∷_, _++_}
 use lib.ListN.{length, drop}
 use lib.Dec.{eqb, ltb}
 use Rattle.octets.specs.Octets.{Bytes}
 use Rattle.rules.specs.declared.Card.{Card}
-use Rattle.rules.specs.declared.Outcome.{Outcome}
-use Rattle.rules.specs.declared.Reply.{Reply}
-use Rattle.rules.specs.declared.Reply.the-variants.{Refused, Response, HandedOut, WasReset}
-use Rattle.rules.specs.declared.Refusal.{Refusal}
-use Rattle.rules.specs.declared.Refusal.the-variants.{BadState, ShortBuffer, CertificateLength, JobWaiting, NoJobWaiting}
+use Rattle.rules.specs.Numbers.{Returned, edge, responded, handedOut, wasReset}
 use Rattle.rules.specs.Codes.{PUK, PIN1, PIN2, closed}
-use Rattle.rules.specs.Keys.{kindNumber}
-use Rattle.rules.specs.Session.{newSession, withSession}
+use Rattle.rules.specs.Session.{newSession}
 use Rattle.rules.specs.State.{good}
-use Rattle.rules.specs.Answers.{Answer, response, job, inSession}
+use Rattle.rules.specs.Answers.{Answer, response, job, Step, inSession}
 use Rattle.rules.specs.Judgement.{judge}
 use Rattle.rules.specs.Delivery.{deliver}
 
--- Document 01's number for each edge refusal.
-abbrev pub refusalNumber : Refusal → ℕ
-refusalNumber BadState = 1
-refusalNumber ShortBuffer = 2
-refusalNumber CertificateLength = 3
-refusalNumber JobWaiting = 4
-refusalNumber NoJobWaiting = 5
-
--- What a call returns, in document 01's numbers: a refusal's number; a response's length; a job's kind and key; of a reset nothing.
-abbrev pub replyValues : Reply → List ℕ
-replyValues (Refused r) = refusalNumber r ∷ []
-replyValues (Response n) = n ∷ []
-replyValues (HandedOut kind key) = kindNumber kind ∷ key ∷ []
-replyValues WasReset = []
+-- What a call gives: what it returns, the next card, and the buffer as it leaves it.
+pub record Result : Type 0 where
+  pub returned : Returned
+  pub card : Card
+  pub buffer : Bytes
 
 -- An edge refusal: state and buffer stay.
-abbrev pub refused : Card → Bytes → Refusal → Outcome × Bytes
-refused c buffer r = (record { card = c; reply = Refused r }, buffer)
+abbrev pub refuse : Card → Bytes → ℕ → Result
+refuse c buffer n = record { returned = edge n; card = c; buffer = buffer }
 
 -- The data, then two status bytes, and no byte more.
 unfoldable pub responseIn : Bytes → Bytes → ℕ → Bytes
 responseIn buffer d sw = d ++ ((sw / 256) ∷ (sw % 256) ∷ drop (length d + 2) buffer)
 
--- What a call returns, and the buffer as it leaves it. A response writes its data, then two status bytes, and returns its length. A job writes 256 bytes and returns kind and key.
-unfoldable pub written : Bytes → Card → Answer → Outcome × Bytes
-written buffer c (response d sw) = (record { card = c; reply = Response (length d + 2) }, responseIn buffer d sw)
-written buffer c (job kind key block) = (record { card = c; reply = HandedOut kind key }, block ++ drop (length block) buffer)
+-- A response writes its data, then two status bytes, and returns its length. A job writes its block and returns kind and key.
+unfoldable pub written : Bytes → Card → Answer → Result
+written buffer c (response d sw) = record { returned = responded (length d + 2); card = c; buffer = responseIn buffer d sw }
+written buffer c (job kind key block) =
+    record { returned = handedOut kind key; card = c; buffer = block ++ drop (length block) buffer }
+
+-- The card after a step: what else it has no call changes.
+abbrev pub cardAfter : Card → Step → Card
+cardAfter c o = record { codes = o .codes; profile = c .profile; session = o .session }
+
+abbrev pub answered : Bytes → Card → Step → Result
+answered buffer c o = written buffer (cardAfter c o) (o .answer)
 
 -- Edge refusal 2: buffer under 258 bytes.
 abbrev pub shortBuffer : Bytes → Bool
@@ -56,30 +50,29 @@ shortBuffer buffer = ltb (length buffer) 258
 abbrev pub badCertificate : Bytes → Bool
 badCertificate certificate = eqb (length certificate) 0 || ltb 1536 (length certificate)
 
+-- Edge refusals 4 and 5: whether a job waits.
 abbrev pub jobWaits : Card → Bool
 jobWaits c = not (eqb (c .session .job .kind) 0)
 
--- A command.
-unfoldable pub command : Card → Bytes → Bytes → Bytes → Bytes → Outcome × Bytes
+-- A command: the card, its bytes, the authentication and the signature certificate, and the buffer.
+unfoldable pub command : Card → Bytes → Bytes → Bytes → Bytes → Result
 command c apdu authentication signature buffer =
-    let step = judge c apdu authentication signature in
-    cond (not (good c)) (refused c buffer BadState)
-    (cond (shortBuffer buffer) (refused c buffer ShortBuffer)
-    (cond (badCertificate authentication || badCertificate signature) (refused c buffer CertificateLength)
-    (cond (jobWaits c) (refused c buffer JobWaiting)
-    (written buffer (step .card) (step .answer)))))
+    cond (not (good c)) (refuse c buffer 1)
+    (cond (shortBuffer buffer) (refuse c buffer 2)
+    (cond (badCertificate authentication || badCertificate signature) (refuse c buffer 3)
+    (cond (jobWaits c) (refuse c buffer 4)
+    (answered buffer c (judge c apdu authentication signature)))))
 
--- A delivery.
-unfoldable pub delivery : Card → Bytes → Bytes → Outcome × Bytes
+-- A delivery: the card, the key host's result, and the buffer.
+unfoldable pub delivery : Card → Bytes → Bytes → Result
 delivery c result buffer =
-    let step = inSession c (deliver (c .session) result) in
-    cond (not (good c)) (refused c buffer BadState)
-    (cond (shortBuffer buffer) (refused c buffer ShortBuffer)
-    (cond (not (jobWaits c)) (refused c buffer NoJobWaiting)
-    (written buffer (step .card) (step .answer))))
+    cond (not (good c)) (refuse c buffer 1)
+    (cond (shortBuffer buffer) (refuse c buffer 2)
+    (cond (not (jobWaits c)) (refuse c buffer 5)
+    (answered buffer c (inSession (c .codes) (deliver (c .session) result)))))
 
--- A power reset. Marks off and a new session; code values and tries are kept.
-unfoldable pub powerReset : Card → Outcome
+-- A power reset, which has no buffer. Marks off and a new session; code values and tries are kept.
+unfoldable pub powerReset : Card → Returned × Card
 powerReset c =
-    cond (not (good c)) (record { card = c; reply = Refused BadState })
-    (record { card = withSession (closed (closed (closed c PUK) PIN1) PIN2) newSession; reply = WasReset })
+    cond (not (good c)) (edge 1, c)
+    (wasReset, record { codes = closed (closed (closed (c .codes) PUK) PIN1) PIN2; profile = c .profile; session = newSession })

@@ -1,10 +1,12 @@
 -- Document 01, "Order of judgement for a command", step 7: SELECT, READ RECORD, READ BINARY and GET RESPONSE.
 use Prim.Native.Nat.{_-_}
 use mathlib.Core.Bool.{cond, not, _&&_}
+use mathlib.Core.List.{List}
 use lib.ListN.{length, take, drop}
 use lib.Dec.{eqb, leb, ltb}
 use Rattle.octets.specs.Octets.{Bytes, byteAt, word, member}
-use Rattle.rules.specs.declared.Card.{Card}
+use Rattle.rules.specs.declared.Code.{Code}
+use Rattle.rules.specs.declared.Profile.{Profile}
 use Rattle.rules.specs.declared.Session.{Session}
 use Rattle.rules.specs.declared.Header.{Header}
 use Rattle.rules.specs.Session.{root, esteidDirectory, noFile, heldBytes, withSelection, withHeld, dropHeld}
@@ -18,18 +20,19 @@ select s h d =
     let name = word (byteAt d 0) (byteAt d 1) in
     let directory = s .selection .directory in
     cond (eqb (h .p1) 0x00) (sessionStatus (withSelection s root noFile) 0x9000)
-    (cond (eqb (h .p1) 0x01 && (eqb directory root && eqb name esteidDirectory)) (sessionStatus (withSelection s esteidDirectory noFile) 0x9000)
+    (cond (eqb (h .p1) 0x01 && (eqb directory root && eqb name esteidDirectory))
+    (sessionStatus (withSelection s esteidDirectory noFile) 0x9000)
     (cond (eqb (h .p1) 0x02 && member name (filesIn directory)) (sessionStatus (withSelection s directory name) 0x9000)
     (sessionStatus s 0x6A82)))
 
 -- B2 READ RECORD. No file 6986; certificate 6981; beyond the last 6A83; else the record is the data.
-unfoldable pub readRecord : Card → Session → Header → SessionStep
-readRecord c s h =
+unfoldable pub readRecord : List Code → Profile → Session → Header → SessionStep
+readRecord codes profile s h =
     let file = s .selection .file in
     cond (eqb file noFile) (sessionStatus s 0x6986)
     (cond (certificateFile file) (sessionStatus s 0x6981)
     (cond (ltb (recordCount file) (h .p1)) (sessionStatus s 0x6A83)
-    (give s (h .le) (recordOf c file (h .p1)))))
+    (give s (h .le) (recordOf codes profile file (h .p1)))))
 
 -- B0 READ BINARY, offset P1P2. No file 6986; record file 6981; offset at or past the size 6B00.
 -- Gives the smaller of Le and what remains, 9000.
@@ -50,4 +53,7 @@ getResponse s h =
     cond (eqb (length held) 0) (sessionStatus (dropHeld s) 0x6985)
     (cond (leb (length held) (h .le))
     (record { session = dropHeld s; answer = response held 0x9000 })
-    (record { session = withHeld s (drop (h .le) held); answer = response (take (h .le) held) (moreBytes (length held - h .le)) }))
+    (record {
+      session = withHeld s (drop (h .le) held);
+      answer = response (take (h .le) held) (moreBytes (length held - h .le));
+    }))

@@ -8,143 +8,163 @@ use Rattle.octets.specs.Octets.{Bytes, word, digit, member, blank, filled}
 use Rattle.rules.specs.declared.Card.{Card}
 use Rattle.rules.specs.declared.Code.{Code}
 use Rattle.rules.specs.declared.Record.{Record}
-use Rattle.rules.specs.declared.Fault.{Fault}
-use Rattle.rules.specs.declared.Fault.the-variants.{EndsEarly, WrongCount, BadCode, BadKey, BadReference, RecordLength, LeftOver}
-use Rattle.rules.specs.declared.Loaded.{Loaded}
-use Rattle.rules.specs.declared.LoadResult.{LoadResult}
-use Rattle.rules.specs.declared.LoadResult.the-variants.{Accepted, Faulty}
+use Rattle.rules.specs.declared.JobKind.the-variants.{Authenticate, Sign}
+use Rattle.rules.specs.Numbers.{kindNumber}
 use Rattle.rules.specs.Codes.{PUK, PIN1, PIN2, least, most, fullTries, storing, zeroCode}
 use Rattle.rules.specs.Keys.{signatureKey, authenticationKey, usable, activeKey}
 use Rattle.rules.specs.Session.{newSession}
 
--- Document 01's number for each fault.
-abbrev pub faultNumber : Fault → ℕ
-faultNumber EndsEarly = 21
-faultNumber WrongCount = 22
-faultNumber BadCode = 23
-faultNumber BadKey = 24
-faultNumber BadReference = 25
-faultNumber RecordLength = 26
-faultNumber LeftOver = 27
-
--- Document 01's number for each result of load; 0 stands for no fault.
-abbrev pub loadNumber : LoadResult → ℕ
-loadNumber Accepted = 0
-loadNumber (Faulty f) = faultNumber f
-
--- What reading gives: what was read and the bytes after it, or the first fault.
+-- What reading gives: what was read and the bytes after it, or the number of the first fault.
 pub data Read (A : Type 0) : Type 0 where
   got : A → Bytes → Read A
-  fault : Fault → Read A
+  fault : ℕ → Read A
 
-abbrev pub Reader : Type 0 → Type 0
-Reader A = Bytes → Read A
+-- A reading: what it makes of the bytes that are left.
+abbrev pub Reading : Type 0 → Type 0
+Reading A = Bytes → Read A
 
--- One reading after another, in a `do` block.
+-- How to read a `do` block: its lines are readings, one after another, each of the bytes that the one before left. `x ← r` gives what r reads the
+-- name x in the lines below. The first fault is the fault of the whole block. `>>=` and `>>` say so for a line with a name and for one without.
 infixl 1 _>>=_ _>>_
-abbrev pub continued : {A B : Type 0} → Read A → (A → Reader B) → Read B
+abbrev pub continued : {A B : Type 0} → Read A → (A → Reading B) → Read B
 continued (got a rest) next = next a rest
-continued (fault f) next = fault f
+continued (fault n) next = fault n
 
-abbrev pub _>>=_ : {A B : Type 0} → Reader A → (A → Reader B) → Reader B
+abbrev pub _>>=_ : {A B : Type 0} → Reading A → (A → Reading B) → Reading B
 _>>=_ m next b = continued (m b) next
 
-abbrev pub _>>_ : {A B : Type 0} → Reader A → Reader B → Reader B
+abbrev pub _>>_ : {A B : Type 0} → Reading A → Reading B → Reading B
 _>>_ m next b = continued (m b) (λ _. next)
 
 -- A value that reads nothing.
-abbrev pub pure : {A : Type 0} → A → Reader A
+abbrev pub pure : {A : Type 0} → A → Reading A
 pure a b = got a b
 
--- A test that reads nothing.
-abbrev pub require : Bool → Fault → Reader Bool
-require t f b = cond t (got t b) (fault f)
+-- A test that reads nothing: fault n where it fails.
+abbrev pub require : Bool → ℕ → Reading Bool
+require t n b = cond t (got t b) (fault n)
 
--- The next byte, judged as it is read; a missing byte is 21.
-unfoldable pub byteIf : (ℕ → Bool) → Fault → Reader ℕ
-byteIf test f [] = fault EndsEarly
-byteIf test f (x ∷ b) = cond (test x) (got x b) (fault f)
+-- The next byte, judged as it is read: fault n where the test fails; a missing byte is 21.
+unfoldable pub byteIf : (ℕ → Bool) → ℕ → Reading ℕ
+byteIf test n [] = fault 21
+byteIf test n (x ∷ b) = cond (test x) (got x b) (fault n)
 
-abbrev pub anyByte : Reader ℕ
-anyByte = byteIf (λ x. true) EndsEarly
+-- A byte that may be any.
+abbrev pub anyByte : Reading ℕ
+anyByte = byteIf (λ x. true) 21
 
--- n bytes, each judged as it is read.
-unfoldable pub bytesIf : (ℕ → Bool) → Fault → ℕ → Reader Bytes
-bytesIf test f zero = pure []
-bytesIf test f (suc n) = do
-  x ← byteIf test f
-  xs ← bytesIf test f n
+-- `count` bytes, each judged as it is read.
+unfoldable pub bytesIf : (ℕ → Bool) → ℕ → ℕ → Reading Bytes
+bytesIf test n zero = pure []
+bytesIf test n (suc count) = do
+  x ← byteIf test n
+  xs ← bytesIf test n count
   pure (x ∷ xs)
 
-abbrev pub anyBytes : ℕ → Reader Bytes
-anyBytes = bytesIf (λ x. true) EndsEarly
+abbrev pub anyBytes : ℕ → Reading Bytes
+anyBytes = bytesIf (λ x. true) 21
 
 -- Each section after a one-byte count; another count is 22.
-abbrev pub count : ℕ → Reader ℕ
-count n = byteIf (λ x. eqb x n) WrongCount
+abbrev pub count : ℕ → Reading ℕ
+count n = byteIf (λ x. eqb x n) 22
 
 -- A code as length, digits, tries: 23.
-unfoldable pub readCode : ℕ → Reader Code
+unfoldable pub readCode : ℕ → Reading Code
 readCode k = do
-  n ← byteIf (λ n. leb (least k) n && leb n most) BadCode
-  digits ← bytesIf digit BadCode n
-  tries ← byteIf (λ t. leb t fullTries) BadCode
+  n ← byteIf (λ n. leb (least k) n && leb n most) 23
+  digits ← bytesIf digit 23 n
+  tries ← byteIf (λ t. leb t fullTries) 23
   pure (storing digits tries false)
 
--- n two-byte key numbers, known and strictly rising, each judged at its second byte: 24.
-unfoldable pub readKeys : ℕ → ℕ → Reader (List ℕ)
-readKeys zero last = pure []
-readKeys (suc n) last = do
+-- Codes: 3; PUK, PIN1, PIN2.
+unfoldable pub codeSection : Reading (List Code)
+codeSection = do
+  count 3
+  puk ← readCode PUK
+  pin1 ← readCode PIN1
+  pin2 ← readCode PIN2
+  pure (puk ∷ pin1 ∷ pin2 ∷ [])
+
+-- A two-byte key number, high byte first, known and above the last one, judged at its second byte: 24.
+unfoldable pub readKey : ℕ → Reading ℕ
+readKey last = do
   high ← anyByte
   low ← anyByte
-  require ((signatureKey (word high low) || authenticationKey (word high low)) && ltb last (word high low)) BadKey
-  keys ← readKeys n (word high low)
-  pure (word high low ∷ keys)
+  require ((signatureKey (word high low) || authenticationKey (word high low)) && ltb last (word high low)) 24
+  pure (word high low)
 
--- A class with no key, judged after the last key: 24.
-abbrev pub eachClass : List ℕ → Bool
-eachClass keys = (member 0x0100 keys || member 0x0200 keys) && (member 0x1100 keys || member 0x1200 keys)
+-- n key numbers, strictly rising.
+unfoldable pub readKeys : ℕ → ℕ → Reading (List ℕ)
+readKeys zero last = pure []
+readKeys (suc n) last = do
+  key ← readKey last
+  keys ← readKeys n key
+  pure (key ∷ keys)
 
 -- Which of the four keys were read.
 abbrev pub keyMarks : List ℕ → List Bool
 keyMarks keys = member 0x0100 keys ∷ member 0x0200 keys ∷ member 0x1100 keys ∷ member 0x1200 keys ∷ []
 
+-- Keys: 2 to 4; their numbers. A class with no key, judged after the last key: 24.
+unfoldable pub keySection : Reading (List Bool)
+keySection = do
+  n ← byteIf (λ n. leb 2 n && leb n 4) 22
+  keys ← readKeys n 0
+  require ((member 0x0100 keys || member 0x0200 keys) && (member 0x1100 keys || member 0x1200 keys)) 24
+  pure (keyMarks keys)
+
+-- References: 21; the 0033h record. A reference that is not a present key of its class, judged after byte 21: 25.
+unfoldable pub referenceSection : List Bool → Reading Bytes
+referenceSection keys = do
+  count 21
+  references ← anyBytes 21
+  require (usable keys (kindNumber Authenticate) (activeKey references (kindNumber Authenticate))
+      && usable keys (kindNumber Sign) (activeKey references (kindNumber Sign))) 25
+  pure references
+
 -- A record as length 1 to 64, bytes: 26.
-unfoldable pub readPersonal : Reader Record
+unfoldable pub readPersonal : Reading Record
 readPersonal = do
-  n ← byteIf (λ n. leb 1 n && leb n 64) RecordLength
+  n ← byteIf (λ n. leb 1 n && leb n 64) 26
   bytes ← anyBytes n
   pure (record { bytes = filled 64 bytes; len = length bytes })
 
-unfoldable pub readRecords : ℕ → Reader (List Record)
+unfoldable pub readRecords : ℕ → Reading (List Record)
 readRecords zero = pure []
 readRecords (suc n) = do
   r ← readPersonal
   rs ← readRecords n
   pure (r ∷ rs)
 
--- Bytes left over: 27.
-unfoldable pub end : Reader Bool
-end [] = got true []
-end (x ∷ b) = fault LeftOver
-
--- The whole image.
-unfoldable pub readCard : Reader Card
-readCard = do
-  count 3
-  puk ← readCode PUK
-  pin1 ← readCode PIN1
-  pin2 ← readCode PIN2
-  n ← byteIf (λ n. leb 2 n && leb n 4) WrongCount
-  keys ← readKeys n 0
-  require (eachClass keys) BadKey
-  count 21
-  references ← anyBytes 21
-  require (usable (keyMarks keys) 1 (activeKey references 1) && usable (keyMarks keys) 2 (activeKey references 2)) BadReference
+-- Personal: 16; the records.
+unfoldable pub personalSection : Reading (List Record)
+personalSection = do
   count 16
-  personal ← readRecords 16
+  readRecords 16
+
+-- Bytes left over: 27.
+unfoldable pub end : Reading Bool
+end [] = got true []
+end (x ∷ b) = fault 27
+
+-- The card that the sections say, in a new session.
+abbrev pub cardOf : List Code → List Bool → Bytes → List Record → Card
+cardOf codes keys references personal =
+    record {
+      codes = codes;
+      profile = record { keys = keys; references = references; personal = personal };
+      session = newSession;
+    }
+
+-- The whole image: the sections in fixed order.
+unfoldable pub readCard : Reading Card
+readCard = do
+  codes ← codeSection
+  keys ← keySection
+  references ← referenceSection keys
+  personal ← personalSection
   end
-  pure (record { codes = puk ∷ pin1 ∷ pin2 ∷ []; keys = keyMarks keys; references = references; personal = personal; session = newSession })
+  pure (cardOf codes keys references personal)
 
 -- The all-zero state, which isn't good.
 abbrev pub zeroRecord : Record
@@ -154,22 +174,20 @@ unfoldable pub zeroCard : Card
 zeroCard =
     record {
       codes = replicate 3 zeroCode;
-      keys = replicate 4 false;
-      references = blank 21;
-      personal = replicate 16 zeroRecord;
+      profile = record { keys = replicate 4 false; references = blank 21; personal = replicate 16 zeroRecord };
       session = record {
         selection = record { directory = 0; file = 0 };
         environment = record { number = 0; choices = blank 3 };
         held = record { bytes = blank 256; len = 0 };
-        chain = record { bytes = blank 257; len = 0 };
+        chain = record { bytes = blank 258; len = 0 };
         job = record { kind = 0; key = 0; le = 0 };
       };
     }
 
--- Load returns the state, or a number beside an all-zero state.
-unfoldable pub loaded : Read Card → Loaded
-loaded (got c rest) = record { card = c; result = Accepted }
-loaded (fault f) = record { card = zeroCard; result = Faulty f }
+-- Load returns the state and 0 for no fault, or a fault's number beside an all-zero state.
+unfoldable pub loaded : Read Card → ℕ × Card
+loaded (got c rest) = (0, c)
+loaded (fault n) = (n, zeroCard)
 
-unfoldable pub load : Bytes → Loaded
+unfoldable pub load : Bytes → ℕ × Card
 load image = loaded (readCard image)

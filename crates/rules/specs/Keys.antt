@@ -6,16 +6,8 @@ use mathlib.Core.List.{List}
 use lib.ListN.{getD}
 use lib.Dec.{eqb}
 use Rattle.octets.specs.Octets.{Bytes, byteAt, word}
-use Rattle.rules.specs.declared.Card.{Card}
-use Rattle.rules.specs.declared.Session.{Session}
-use Rattle.rules.specs.declared.JobKind.{JobKind}
-use Rattle.rules.specs.declared.JobKind.the-variants.{Authenticate, Sign, Decipher}
-
--- Document 01's number for each kind of job.
-abbrev pub kindNumber : JobKind → ℕ
-kindNumber Authenticate = 1
-kindNumber Sign = 2
-kindNumber Decipher = 3
+use Rattle.rules.specs.declared.JobKind.the-variants.{Sign}
+use Rattle.rules.specs.Numbers.{kindNumber}
 
 -- Signature keys are 0100h and 0200h.
 abbrev pub signatureKey : ℕ → Bool
@@ -25,34 +17,38 @@ signatureKey key = eqb key 0x0100 || eqb key 0x0200
 abbrev pub authenticationKey : ℕ → Bool
 authenticationKey key = eqb key 0x1100 || eqb key 0x1200
 
--- A key of the class that a job of this kind number uses: 2 signature keys, 1 and 3 authentication keys.
+-- A key of the class that a job of this kind uses: signature keys to sign; authentication keys to authenticate and to decipher
+-- (the last row).
 unfoldable pub ofClass : ℕ → ℕ → Bool
-ofClass kind key = cond (eqb kind 2) (signatureKey key) (authenticationKey key)
+ofClass kind key =
+    cond (eqb kind (kindNumber Sign)) (signatureKey key)
+    (authenticationKey key)
 
 -- Whether a key is on the card; the four marks are for 0100h, 0200h, 1100h and 1200h.
 unfoldable pub present : List Bool → ℕ → Bool
 present keys key =
-    eqb key 0x0100 && getD keys 0 false
-    || eqb key 0x0200 && getD keys 1 false
-    || eqb key 0x1100 && getD keys 2 false
-    || eqb key 0x1200 && getD keys 3 false
+    (eqb key 0x0100 && getD keys 0 false)
+    || (eqb key 0x0200 && getD keys 1 false)
+    || (eqb key 0x1100 && getD keys 2 false)
+    || (eqb key 0x1200 && getD keys 3 false)
 
--- A present key of the class that a job of this kind number uses.
+-- A present key of the class that a job of this kind uses.
 abbrev pub usable : List Bool → ℕ → ℕ → Bool
 usable keys kind key = present keys key && ofClass kind key
 
--- The active key of a class, named by the record of 0033h: bytes 9, 10 authentication; bytes 19, 20 signature.
+-- The active key of the class that a job of this kind uses, named by the record of 0033h: to sign bytes 19, 20; to authenticate and to
+-- decipher (the last row) bytes 9, 10.
 unfoldable pub activeKey : Bytes → ℕ → ℕ
 activeKey references kind =
-    cond (eqb kind 2) (word (byteAt references 19) (byteAt references 20)) (word (byteAt references 9) (byteAt references 10))
+    cond (eqb kind (kindNumber Sign)) (word (byteAt references 19) (byteAt references 20))
+    (word (byteAt references 9) (byteAt references 10))
 
--- The key choice for a job of this kind number; 0 is "active".
+-- The key choice for a job of this kind, of the three for kinds 1, 2 and 3; 0 is "active".
 abbrev pub choiceOf : List ℕ → ℕ → ℕ
 choiceOf choices kind = getD choices (kind - 1) 0
 
--- The key that a job of this kind number takes: the chosen one, or the active one of its class.
-unfoldable pub keyFor : Card → Session → ℕ → ℕ
-keyFor c s kind =
-    cond (eqb (choiceOf (s .environment .choices) kind) 0)
-    (activeKey (c .references) kind)
-    (choiceOf (s .environment .choices) kind)
+-- The key that a job of this kind takes: the active one of its class where the choice is "active", else the chosen one.
+unfoldable pub keyFor : Bytes → List ℕ → ℕ → ℕ
+keyFor references choices kind =
+    cond (eqb (choiceOf choices kind) 0) (activeKey references kind)
+    (choiceOf choices kind)

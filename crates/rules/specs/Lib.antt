@@ -1,3 +1,4 @@
+pub mod Numbers
 pub mod Codes
 pub mod Keys
 pub mod Session
@@ -18,4 +19,3 @@ pub mod Demands
 pub mod CodeSheet
 pub mod Sample
 pub mod Cases
-pub mod FurtherCases

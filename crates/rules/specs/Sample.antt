@@ -8,7 +8,6 @@ use lib.ListN.{replicate}
 use Rattle.octets.specs.Octets.{Bytes, filled}
 use Rattle.rules.specs.declared.Card.{Card}
 use Rattle.rules.specs.Codes.{fullTries, storing}
-use Rattle.rules.specs.declared.LoadResult.the-variants.{Accepted}
 use Rattle.rules.specs.Session.{newSession}
 use Rattle.rules.specs.Image.{load}
 
@@ -29,9 +28,11 @@ unfoldable pub sampleCard : Card
 sampleCard =
     record {
       codes = storing puk fullTries false ∷ storing pin1 fullTries false ∷ storing pin2 fullTries false ∷ [];
-      keys = true ∷ false ∷ true ∷ false ∷ [];
-      references = references;
-      personal = replicate 16 (record { bytes = filled 64 (0x20 ∷ []); len = 1 });
+      profile = record {
+        keys = true ∷ false ∷ true ∷ false ∷ [];
+        references = references;
+        personal = replicate 16 (record { bytes = filled 64 (0x20 ∷ []); len = 1 });
+      };
       session = newSession;
     }
 
@@ -50,4 +51,4 @@ sampleImage =
 
 -- The image loads as the sample card.
 abbrev pub SampleLoads : Type 0
-SampleLoads = load sampleImage ≡ record { card = sampleCard; result = Accepted }
+SampleLoads = load sampleImage ≡ (0, sampleCard)

@@ -3,7 +3,6 @@ use Prim.Native.Nat.{ℕ}
 use mathlib.Core.List.{List, [], _∷_}
 use lib.ListN.{length, take}
 use Rattle.octets.specs.Octets.{Bytes, filled}
-use Rattle.rules.specs.declared.Card.{Card}
 use Rattle.rules.specs.declared.Session.{Session}
 use Rattle.rules.specs.declared.Held.{Held}
 use Rattle.rules.specs.declared.Chain.{Chain}
@@ -25,11 +24,12 @@ abbrev pub allActive : List ℕ
 allActive = 0 ∷ 0 ∷ 0 ∷ []
 
 -- "Held answer" and "chain" are document 01's terms: response data that waits for GET RESPONSE, and the joined parts of a DECIPHER.
+-- The chain has 258 places, of which at most 257 are used.
 abbrev pub holding : Bytes → Held
 holding d = record { bytes = filled 256 d; len = length d }
 
 abbrev pub joining : Bytes → Chain
-joining d = record { bytes = filled 257 d; len = length d }
+joining d = record { bytes = filled 258 d; len = length d }
 
 abbrev pub heldBytes : Session → Bytes
 heldBytes s = take (s .held .len) (s .held .bytes)
@@ -44,27 +44,45 @@ noJob = record { kind = 0; key = 0; le = 0 }
 -- A session with one part replaced.
 abbrev pub withSelection : Session → ℕ → ℕ → Session
 withSelection s directory file =
-    record { selection = record { directory = directory; file = file }; environment = s .environment; held = s .held; chain = s .chain; job = s .job }
+    record {
+      selection = record { directory = directory; file = file };
+      environment = s .environment;
+      held = s .held;
+      chain = s .chain;
+      job = s .job;
+    }
 
 abbrev pub withEnvironment : Session → ℕ → List ℕ → Session
 withEnvironment s number choices =
-    record { selection = s .selection; environment = record { number = number; choices = choices }; held = s .held; chain = s .chain; job = s .job }
+    record {
+      selection = s .selection;
+      environment = record { number = number; choices = choices };
+      held = s .held;
+      chain = s .chain;
+      job = s .job;
+    }
 
 abbrev pub withHeld : Session → Bytes → Session
-withHeld s d = record { selection = s .selection; environment = s .environment; held = holding d; chain = s .chain; job = s .job }
+withHeld s d =
+    record { selection = s .selection; environment = s .environment; held = holding d; chain = s .chain; job = s .job }
 
 abbrev pub withChain : Session → Bytes → Session
-withChain s d = record { selection = s .selection; environment = s .environment; held = s .held; chain = joining d; job = s .job }
+withChain s d =
+    record { selection = s .selection; environment = s .environment; held = s .held; chain = joining d; job = s .job }
 
 abbrev pub withJob : Session → Job → Session
-withJob s j = record { selection = s .selection; environment = s .environment; held = s .held; chain = s .chain; job = j }
+withJob s j =
+    record { selection = s .selection; environment = s .environment; held = s .held; chain = s .chain; job = j }
 
--- The held answer is dropped; the chain is dropped.
+-- The held answer is dropped; the chain is dropped; both are.
 abbrev pub dropHeld : Session → Session
 dropHeld s = withHeld s []
 
 abbrev pub dropChain : Session → Session
 dropChain s = withChain s []
+
+abbrev pub dropBoth : Session → Session
+dropBoth s = dropHeld (dropChain s)
 
 -- Load and power reset give: root, no file, environment 1, choices at "active", the rest empty.
 unfoldable pub newSession : Session
@@ -76,7 +94,3 @@ newSession =
       chain = joining [];
       job = noJob;
     }
-
--- The card with another session.
-abbrev pub withSession : Card → Session → Card
-withSession c s = record { codes = c .codes; keys = c .keys; references = c .references; personal = c .personal; session = s }

@@ -1,12 +1,15 @@
 -- Document 01, "The edge": what a good state is ("good" is document 01's term). Nothing more is asked.
+-- Of each byte array and of the key choices the length is asked too. Of the lists of codes, key marks and records it is not: the rules read
+-- their first 3, 4 and 16 elements and no others, and the card's declared types have exactly these.
 use Prim.Native.Nat.{ℕ, zero, suc}
 use mathlib.Core.Bool.{Bool, true, cond, not, _&&_, _||_}
 use mathlib.Core.List.{List, [], _∷_}
-use lib.ListN.{length, drop, getD}
+use lib.ListN.{length, getD}
 use lib.Dec.{eqb, leb}
-use Rattle.octets.specs.Octets.{Bytes, every, member, allDigits, allZero}
+use Rattle.octets.specs.Octets.{Bytes, every, member, allDigits, goodRoom}
 use Rattle.rules.specs.declared.Card.{Card}
 use Rattle.rules.specs.declared.Code.{Code}
+use Rattle.rules.specs.declared.Profile.{Profile}
 use Rattle.rules.specs.declared.Record.{Record}
 use Rattle.rules.specs.declared.Session.{Session}
 use Rattle.rules.specs.declared.Selection.{Selection}
@@ -14,14 +17,12 @@ use Rattle.rules.specs.declared.Environment.{Environment}
 use Rattle.rules.specs.declared.Held.{Held}
 use Rattle.rules.specs.declared.Chain.{Chain}
 use Rattle.rules.specs.declared.Job.{Job}
+use Rattle.rules.specs.declared.JobKind.the-variants.{Authenticate, Sign, Decipher}
+use Rattle.rules.specs.Numbers.{kindNumber}
 use Rattle.rules.specs.Codes.{PUK, PIN1, PIN2, least, most, fullTries, value, codeOf}
 use Rattle.rules.specs.Keys.{usable, activeKey, choiceOf}
 use Rattle.rules.specs.Session.{root, esteidDirectory, noFile}
 use Rattle.rules.specs.Files.{filesIn, noRecord}
-
--- A string of a stated length in an array of a stated size: the length fits, and every unused place is zero.
-unfoldable pub goodRoom : ℕ → Bytes → ℕ → Bool
-goodRoom size bytes len = every (eqb (length bytes) size ∷ leb len size ∷ allZero (drop len bytes) ∷ [])
 
 -- Code k: 8, 4 or 5 to 12 digits, 0 to 3 tries left, and verified implies 3 tries.
 unfoldable pub goodCode : ℕ → Code → Bool
@@ -35,13 +36,17 @@ goodCode k v =
     ∷ []
     )
 
+unfoldable pub goodCodes : List Code → Bool
+goodCodes codes =
+    every (goodCode PUK (codeOf codes PUK) ∷ goodCode PIN1 (codeOf codes PIN1) ∷ goodCode PIN2 (codeOf codes PIN2) ∷ [])
+
 -- The record of 0033h has 21 bytes, and the active key of each class is present and of its class.
 unfoldable pub goodReferences : List Bool → Bytes → Bool
 goodReferences keys references =
     every (
     eqb (length references) 21
-    ∷ usable keys 1 (activeKey references 1)
-    ∷ usable keys 2 (activeKey references 2)
+    ∷ usable keys (kindNumber Authenticate) (activeKey references (kindNumber Authenticate))
+    ∷ usable keys (kindNumber Sign) (activeKey references (kindNumber Sign))
     ∷ []
     )
 
@@ -53,6 +58,9 @@ goodRecord r = goodRoom 64 (r .bytes) (r .len)
 unfoldable pub goodRecords : ℕ → List Record → Bool
 goodRecords zero rs = true
 goodRecords (suc n) rs = goodRecords n rs && goodRecord (getD rs n noRecord)
+
+unfoldable pub goodProfile : Profile → Bool
+goodProfile p = every (goodReferences (p .keys) (p .references) ∷ goodRecords 16 (p .personal) ∷ [])
 
 -- The current directory is one of the two; the current file, if any, is in it.
 unfoldable pub goodSelection : Selection → Bool
@@ -73,18 +81,19 @@ goodEnvironment keys e =
     every (
     eqb (length (e .choices)) 3
     ∷ (eqb (e .number) 1 || eqb (e .number) 6)
-    ∷ goodChoice keys (e .choices) 1
-    ∷ goodChoice keys (e .choices) 2
-    ∷ goodChoice keys (e .choices) 3
+    ∷ goodChoice keys (e .choices) (kindNumber Authenticate)
+    ∷ goodChoice keys (e .choices) (kindNumber Sign)
+    ∷ goodChoice keys (e .choices) (kindNumber Decipher)
     ∷ []
     )
 
--- The held answer has at most 256 bytes; the chain at most 257.
+-- The held answer has at most 256 bytes.
 abbrev pub goodHeld : Held → Bool
 goodHeld h = goodRoom 256 (h .bytes) (h .len)
 
+-- The chain has at most 257 bytes, and its last place is empty.
 abbrev pub goodChain : Chain → Bool
-goodChain n = goodRoom 257 (n .bytes) (n .len)
+goodChain n = leb (n .len) 257 && goodRoom 258 (n .bytes) (n .len)
 
 -- A waiting job has kind 1 to 3, a present key of that kind's class, and Le none or 1 to 256. No job is all zeros.
 unfoldable pub goodJob : List Bool → Job → Bool
@@ -95,7 +104,7 @@ goodJob keys j =
 
 -- A waiting job excludes held data and a chain.
 abbrev pub jobExcludes : Session → Bool
-jobExcludes s = eqb (s .job .kind) 0 || eqb (s .held .len) 0 && eqb (s .chain .len) 0
+jobExcludes s = eqb (s .job .kind) 0 || (eqb (s .held .len) 0 && eqb (s .chain .len) 0)
 
 unfoldable pub goodSession : List Bool → Session → Bool
 goodSession keys s =
@@ -111,13 +120,4 @@ goodSession keys s =
 
 -- A good state.
 unfoldable pub good : Card → Bool
-good c =
-    every (
-    goodCode PUK (codeOf c PUK)
-    ∷ goodCode PIN1 (codeOf c PIN1)
-    ∷ goodCode PIN2 (codeOf c PIN2)
-    ∷ goodReferences (c .keys) (c .references)
-    ∷ goodRecords 16 (c .personal)
-    ∷ goodSession (c .keys) (c .session)
-    ∷ []
-    )
+good c = every (goodCodes (c .codes) ∷ goodProfile (c .profile) ∷ goodSession (c .profile .keys) (c .session) ∷ [])

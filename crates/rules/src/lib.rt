@@ -3,9 +3,10 @@ ghost use mathlib.Core.Path.{_≡_};
 ghost use Rattle.rules.specs.Codes.{least};
 
 // One code: PUK, PIN1 or PIN2.
+#[repr(C)]
 pub struct Code {
     pub digits: [u8; 12],
-    pub len: usize,
+    pub len: u8,
     pub tries: u8,
     pub verified: bool,
 }
@@ -36,43 +37,60 @@ impl Code {
 }
 
 // A personal record of file 5044h.
+#[repr(C)]
 pub struct Record {
     pub bytes: [u8; 64],
-    pub len: usize,
+    pub len: u8,
+}
+
+// What load stores and no call changes: which of the keys 0100h, 0200h, 1100h, 1200h are present, the record of 0033h, and
+// the personal records.
+#[repr(C)]
+pub struct Profile {
+    pub keys: [bool; 4],
+    pub references: [u8; 21],
+    pub personal: [Record; 16],
 }
 
 // The current directory and file; file 0 is none.
+#[repr(C)]
 pub struct Selection {
     pub directory: u16,
     pub file: u16,
 }
 
 // The security environment: its number, and the key chosen for job kinds 1 to 3; 0 is "active".
+#[repr(C)]
 pub struct Environment {
-    pub number: u8,
+    pub number: u16,
     pub choices: [u16; 3],
 }
 
 // The held answer, which GET RESPONSE reads.
+#[repr(C)]
 pub struct Held {
     pub bytes: [u8; 256],
-    pub len: usize,
+    pub len: u16,
 }
 
-// The chain: the parts of a cryptogram that DECIPHER joins.
+// The chain: the parts of a cryptogram that DECIPHER joins, at most 257 bytes. The last place stays empty, so that no padding
+// stands before the length.
+#[repr(C)]
 pub struct Chain {
-    pub bytes: [u8; 257],
-    pub len: usize,
+    pub bytes: [u8; 258],
+    pub len: u16,
 }
 
 // The waiting job: kind 1 to 3, or 0 for none; its key; its Le, or 0 for none.
+#[repr(C)]
 pub struct Job {
-    pub kind: u8,
+    pub kind: u16,
     pub key: u16,
-    pub le: usize,
+    pub le: u16,
 }
 
 // What a power reset clears, beside the verified marks.
+#[repr(C)]
 pub struct Session {
     pub selection: Selection,
     pub environment: Environment,
@@ -81,12 +99,11 @@ pub struct Session {
     pub job: Job,
 }
 
-// The card. `keys` tells which of 0100h, 0200h, 1100h, 1200h are present; `references` is the record of 0033h.
+// The card. Widths and order of all its fields leave no padding between or behind them.
+#[repr(C)]
 pub struct Card {
     pub codes: [Code; 3],
-    pub keys: [bool; 4],
-    pub references: [u8; 21],
-    pub personal: [Record; 16],
+    pub profile: Profile,
     pub session: Session,
 }
 
@@ -97,13 +114,48 @@ pub struct Header {
     pub p1: u8,
     pub p2: u8,
     pub lc: usize,
-    pub le: usize,
+    pub le: u16,
 }
 
-// What the length form of a command gives.
+// What the length form of a command gives: its header and where its data starts. `lengthForm` says what each case is.
 pub enum Parsed {
-    Form(Header),
+    Form(Header, usize),
     Malformed,
+}
+
+// The commands, in document 01's order.
+pub enum Command {
+    Select,
+    ReadRecord,
+    ReadBinary,
+    GetResponse,
+    Verify,
+    Change,
+    ResetRetry,
+    SetEnvironment,
+    ChooseKey,
+    InternalAuthenticate,
+    ComputeSignature,
+    Decipher,
+}
+
+// The command that a header names, if any.
+pub enum Named {
+    Is(Command),
+    Nothing,
+}
+
+// How a presented value is judged.
+pub enum Verdict {
+    Right,
+    Wrong,
+    NoTries,
+}
+
+// The codes after a command, and the status word that is its whole answer.
+pub struct CodeStep {
+    pub codes: [Code; 3],
+    pub sw: u16,
 }
 
 // The edge's refusals; `refusalNumber` gives document 01's numbers.
@@ -123,7 +175,7 @@ pub enum JobKind {
 }
 
 // What a call returns beside the card: an edge refusal; the length of a response in the buffer; a job's kind and key,
-// its block in the buffer; or that a power reset was done.
+// its block in the buffer; or that a power reset was done. `returned` gives document 01's numbers.
 pub enum Reply {
     Refused(Refusal),
     Response(usize),
@@ -147,6 +199,7 @@ pub enum Fault {
     LeftOver,
 }
 
+// What load answers; `loadNumber` gives document 01's numbers.
 pub enum LoadResult {
     Accepted,
     Faulty(Fault),

@@ -1,13 +1,11 @@
-// Selection, environment and job of a session replaced, and the session of a card.
-use rules::Card;
+// Selection, environment and job of a session replaced.
 use rules::Environment;
 use rules::Job;
 use rules::Selection;
 use rules::Session;
 ghost use mathlib.Core.Path.{_≡_};
-ghost use Rattle.rules.specs.Session.{withSelection, withEnvironment, withJob, withSession};
+ghost use Rattle.rules.specs.Session.{withSelection, withEnvironment, withJob};
 
-// A session with one part replaced.
 pub fn with_selection(s: Session, directory: u16, file: u16) -> Session
     ensures { λ r. ⌜ r ≡ withSelection s directory file ⌝ }
 {
@@ -20,7 +18,7 @@ pub fn with_selection(s: Session, directory: u16, file: u16) -> Session
     next
 }
 
-pub fn with_environment(s: Session, number: u8, choices: [u16; 3]) -> Session
+pub fn with_environment(s: Session, number: u16, choices: [u16; 3]) -> Session
     ensures { λ r. ⌜ r ≡ withEnvironment s number choices ⌝ }
 {
     let environment = Environment {
@@ -37,14 +35,5 @@ pub fn with_job(s: Session, job: Job) -> Session
 {
     let mut next = s;
     next.job = job;
-    next
-}
-
-// The card with another session.
-pub fn with_session(card: Card, s: Session) -> Card
-    ensures { λ r. ⌜ r ≡ withSession card s ⌝ }
-{
-    let mut next = card;
-    next.session = s;
     next
 }

@@ -12,25 +12,25 @@ use Rattle.octets.proofs.Pasting.{length-blank}
 use Rattle.hex.specs.Hex.{isHex, bytesOf}
 use Rattle.hex.proofs.Laws.{length-hexOf, bytesOf-bytes}
 use Rattle.rules.specs.declared.Card.{Card}
-use Rattle.rules.specs.declared.Outcome.{Outcome}
-use Rattle.rules.specs.declared.Reply.{Reply}
-use Rattle.rules.specs.declared.Reply.the-variants.{Refused, Response, HandedOut, WasReset}
-use Rattle.rules.specs.Edge.{command, delivery, powerReset}
+use Rattle.rules.specs.Numbers.{Returned, edge, responded, handedOut, wasReset}
+use Rattle.rules.specs.Edge.{Result, command, delivery}
 use Rattle.rules.specs.Counting.{Command, Delivery, step}
 use Rattle.rules.proofs.Demand1.{demand-1}
-use Rattle.lines.specs.Lines.{Request, command-of, delivery-of, reset, other, lineFeed, replyText, said, answerTo, callOf, requestOf, answerLine}
+use Rattle.lines.specs.Lines.{Request, command-of, delivery-of, reset, other, lineFeed, replyText, said, afterReset}
+use Rattle.lines.specs.Lines.{answerTo, callOf, requestOf, answerLine}
 use Rattle.transcripts.specs.Transcript.{run, ShortOutput}
 use Rattle.transcripts.proofs.Runs.{at-end, at-feed, at-other, nextLine, oneMore}
 
-reply-short : (r : Reply) (b : Bytes) → length b ≤ 258 → length (replyText r b) ≤ 517
+reply-short : (r : Returned) (b : Bytes) → length b ≤ 258 → length (replyText r b) ≤ 517
 unfolding replyText
-reply-short WasReset b h = omega arith
-reply-short (Response n) b h = omega (arith, length-hexOf (take n b), length-take n b)
-reply-short (HandedOut kind key) b h = omega arith
-reply-short (Refused r) b h = omega arith
+reply-short wasReset b h = omega arith
+reply-short (responded n) b h = omega (arith, length-hexOf (take n b), length-take n b)
+reply-short (handedOut kind key) b h = omega arith
+reply-short (edge n) b h = omega arith
 
-said-short : (o : Outcome) (b : Bytes) → length b ≤ 258 → length (said o b .text) ≤ 518
-said-short o b h = omega (arith, length-append (replyText (o .reply) b) (lineFeed ∷ []), reply-short (o .reply) b h)
+said-short : (r : Result) → length (r .buffer) ≤ 258 → length (said r .text) ≤ 518
+said-short r h =
+    omega (arith, length-append (replyText (r .returned) (r .buffer)) (lineFeed ∷ []), reply-short (r .returned) (r .buffer) h)
 
 module _ (authentication signature : Bytes) (a : allBytes authentication ≡ true) (s : allBytes signature ≡ true) (c : Card) where
   abbrev Short : Request → Type 0
@@ -40,15 +40,15 @@ module _ (authentication signature : Bytes) (a : allBytes authentication ≡ tru
   unfolding answerTo step blank
   command-short apdu e =
       let x = Command apdu authentication signature (blank 258) in
-      let kept : length (command c apdu authentication signature (blank 258) .1) ≡ length (blank 258) = demand-1 c x (rw (e, a, s)) .sized in
-      said-short (command c apdu authentication signature (blank 258) .0) (command c apdu authentication signature (blank 258) .1) (omega (arith, kept, length-blank 258))
+      let kept : length (command c apdu authentication signature (blank 258) .buffer) ≡ length (blank 258) = demand-1 .defined c x (rw (e, a, s)) .sized in
+      said-short (command c apdu authentication signature (blank 258)) (omega (arith, kept, length-blank 258))
 
   delivery-short : (result : Bytes) → allBytes result ≡ true → Short (delivery-of result)
   unfolding answerTo step blank
   delivery-short result e =
       let x = Delivery result (blank 258) in
-      let kept : length (delivery c result (blank 258) .1) ≡ length (blank 258) = demand-1 c x (rw e) .sized in
-      said-short (delivery c result (blank 258) .0) (delivery c result (blank 258) .1) (omega (arith, kept, length-blank 258))
+      let kept : length (delivery c result (blank 258) .buffer) ≡ length (blank 258) = demand-1 .defined c x (rw e) .sized in
+      said-short (delivery c result (blank 258)) (omega (arith, kept, length-blank 258))
 
   other-short : Short other
   unfolding answerTo
@@ -56,7 +56,7 @@ module _ (authentication signature : Bytes) (a : allBytes authentication ≡ tru
 
   reset-short : Short reset
   unfolding answerTo
-  reset-short = said-short (powerReset c) (blank 258) (omega (arith, length-blank 258))
+  reset-short = said-short (afterReset c) (omega (arith, length-blank 258))
 
   call-short : (letter : ℕ) (d : Bytes) → allBytes d ≡ true → Short (callOf letter d)
   unfolding callOf

@@ -1,16 +1,12 @@
 use borrow.Author.Tests.{eq-eqb, ne-eqb}
-use borrow.Author.Needs.{needs}
 use Rattle.apdu.proofs.le_of.Statement.{statement}
 use Rattle.apdu.proofs.le_of.Tie as tie
 
 returns : tie.Need-returns
 returns c = simp (eq-eqb _ _ (c .if1 .taken))
 
-wide-requires : tie.Need-wide-requires
-wide-requires c κs = search needs
-
 returns-2 : tie.Need-returns-2
-returns-2 c = simp (ne-eqb _ _ (c .before .if1 .left)) (c .wide .ensures)
+returns-2 c = simp (ne-eqb _ _ (c .if1 .left))
 
 pub le-of-spec : {M : Type 1} → statement M
-le-of-spec = tie.close (tie.spec returns wide-requires returns-2)
+le-of-spec = tie.close (tie.spec returns returns-2)

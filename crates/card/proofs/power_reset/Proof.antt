@@ -1,5 +1,5 @@
-use Rattle.rules.specs.Edge.{powerReset}
 use borrow.Author.Needs.{needs}
+use Rattle.rules.specs.Edge.{powerReset}
 use Rattle.card.proofs.power_reset.Statement.{statement}
 use Rattle.card.proofs.power_reset.Tie as tie
 
@@ -11,7 +11,7 @@ refused-requires c κs = search needs
 
 returns : tie.Need-returns
 unfolding powerReset
-returns c = simp (← c .before .before .good2 .ensures, c .before .if1 .taken) (c .refused .ensures)
+returns c = simp (c .refused .ensures, ← c .before .before .good2 .ensures, c .before .if1 .taken)
 
 closed-requires : tie.Need-closed-requires
 closed-requires c κs = search needs
@@ -25,12 +25,9 @@ closed-requires-3 c κs = search needs
 new-session-requires : tie.Need-new-session-requires
 new-session-requires c κs = search needs
 
-with-session-requires : tie.Need-with-session-requires
-with-session-requires c κs = search needs
-
 returns-2 : tie.Need-returns-2
 unfolding powerReset
-returns-2 c = simp (← c .before .before .before .before .before .before .good2 .ensures, c .before .before .before .before .before .if1 .left, c .with-session .ensures, c .before .new-session .ensures, c .before .before .closed3 .ensures, c .before .before .before .closed2 .ensures, c .before .before .before .before .closed .ensures)
+returns-2 c = simp (c .before .before .closed3 .ensures, c .before .before .before .closed2 .ensures, c .before .before .before .before .closed .ensures, c .new-session .ensures, ← c .before .before .before .before .before .before .before .good2 .ensures, c .before .before .before .before .before .before .if1 .left)
 
 pub power-reset-spec : {M : Type 1} → statement M
 power-reset-spec =
@@ -43,5 +40,4 @@ power-reset-spec =
     closed-requires-2
     closed-requires-3
     new-session-requires
-    with-session-requires
     returns-2)

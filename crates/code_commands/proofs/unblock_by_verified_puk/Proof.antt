@@ -6,15 +6,18 @@ use Rattle.code_commands.proofs.unblock_by_verified_puk.Tie as tie
 code-of-requires : tie.Need-code-of-requires
 code-of-requires c κs = search needs
 
+code-status-requires : tie.Need-code-status-requires
+code-status-requires c κs = search needs
+
 returns : tie.Need-returns
 unfolding unblockByVerifiedPuk
-returns c = simp (← c .before .before .code-of .ensures, c .if1 .taken)
+returns c = simp (← c .before .before .before .code-of .ensures, c .before .if1 .taken) (c .code-status .ensures)
 
 code-of-requires-2 : tie.Need-code-of-requires-2
 code-of-requires-2 c κs = search needs
 
-renewed-requires : tie.Need-renewed-requires
-renewed-requires c κs = search needs
+marked-requires : tie.Need-marked-requires
+marked-requires c κs = search needs
 
 with-code-requires : tie.Need-with-code-requires
 with-code-requires c κs = search needs
@@ -22,18 +25,23 @@ with-code-requires c κs = search needs
 closed-requires : tie.Need-closed-requires
 closed-requires c κs = search needs
 
+code-status-requires-2 : tie.Need-code-status-requires-2
+code-status-requires-2 c κs = search needs
+
 returns-2 : tie.Need-returns-2
 unfolding unblockByVerifiedPuk
-returns-2 c = simp (c .closed .ensures, c .before .with-code .ensures, c .before .before .renewed .ensures, c .before .before .before .code-of2 .ensures, ← c .before .before .before .before .before .before .code-of .ensures, c .before .before .before .before .if1 .left)
+returns-2 c = simp (c .code-status2 .ensures, c .before .closed .ensures, c .before .before .with-code .ensures, c .before .before .before .marked .ensures, c .before .before .before .before .code-of2 .ensures, ← c .before .before .before .before .before .before .before .code-of .ensures, c .before .before .before .before .before .if1 .left)
 
 pub unblock-by-verified-puk-spec : {M : Type 1} → statement M
 unblock-by-verified-puk-spec =
     tie.close
     (tie.spec
     code-of-requires
+    code-status-requires
     returns
     code-of-requires-2
-    renewed-requires
+    marked-requires
     with-code-requires
     closed-requires
+    code-status-requires-2
     returns-2)

@@ -1,7 +1,9 @@
 use mathlib.Core.Path.{_≡_}
 use denote.Ref.{now}
+use native.Mathlib.Omega.{arith}
 use lib.ListN.{take}
 use Rattle.octets.specs.Octets.{Bytes}
+use Rattle.octets.proofs.Cutting.{cut-length}
 use Rattle.octets.proofs.Strings.{take-twice}
 use borrow.Author.Needs.{needs}
 use Rattle.codes.proofs.storing.Statement.{statement}
@@ -13,6 +15,9 @@ part-requires c κs = search needs
 filled-12-requires : tie.Need-filled-12-requires
 filled-12-requires c κs = search needs
 
+cast-t7 : tie.Need-cast-t7
+cast-t7 c = omega (arith, cut-length 12 (now (c .before .part .result)) (now (c .before .before .before .args .value)) (c .before .part .ensures))
+
 returns : tie.Need-returns
 returns c =
     let d : Bytes = now (c .before .before .before .args .value) in
@@ -20,4 +25,4 @@ returns c =
     simp (c .filled-12 .ensures, kept, take-twice 12 d)
 
 pub storing-spec : {M : Type 1} → statement M
-storing-spec = tie.close (tie.spec part-requires filled-12-requires returns)
+storing-spec = tie.close (tie.spec part-requires filled-12-requires cast-t7 returns)

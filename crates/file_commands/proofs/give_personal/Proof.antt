@@ -4,6 +4,7 @@ use lib.ListN.{take, getD}
 use borrow.Author.Needs.{needs}
 use Rattle.rules.specs.Files.{noRecord, personalRecord}
 use Rattle.rules.specs.Answers.{give}
+use Rattle.steps.specs.Steps.{sessionOutputFor}
 use Rattle.file_commands.proofs.give_personal.Statement.{statement}
 use Rattle.file_commands.proofs.give_personal.Tie as tie
 
@@ -21,7 +22,10 @@ give-contents-requires c κs = search needs
 
 returns : tie.Need-returns
 unfolding personalRecord
-returns c = c .give-contents .ensures ∙ ap (λ (k : ℕ). give (c .before .before .before .args .s) (c .before .before .before .args .le) (take (getD (c .before .before .before .args .t1 .personal) k noRecord .len) (getD (c .before .before .before .args .t1 .personal) k noRecord .bytes))) (c .before .before .place .ensures)
+returns c =
+    let a = c .before .before .before .args in
+    c .give-contents .ensures
+    ∙ ap (λ (k : ℕ). sessionOutputFor (give (a .s) (a .le) (take (getD (a .t1 .personal) k noRecord .len) (getD (a .t1 .personal) k noRecord .bytes)))) (c .before .before .place .ensures)
 
 pub give-personal-spec : {M : Type 1} → statement M
 give-personal-spec =

@@ -4,6 +4,7 @@ use lib.Seq.{take-all}
 use borrow.Author.Needs.{needs}
 use Rattle.octets.specs.Octets.{Bytes}
 use Rattle.rules.specs.Answers.{give}
+use Rattle.steps.specs.Steps.{sessionOutputFor}
 use Rattle.file_commands.proofs.Laws.{personal-count, counters-of, references-of, personal-of}
 use Rattle.file_commands.proofs.give_record.Statement.{statement}
 use Rattle.file_commands.proofs.give_record.Tie as tie
@@ -14,7 +15,7 @@ give-counter-requires c κs = search needs
 returns : tie.Need-returns
 returns c =
     let a = c .before .before .args in
-    c .give-counter .ensures ∙ ap (λ (d : Bytes). give (a .s) (a .le) d) (counters-of (a .file) (c .before .if1 .taken) (a .card) (a .n))
+    c .give-counter .ensures ∙ ap (λ (d : Bytes). sessionOutputFor (give (a .s) (a .le) d)) (counters-of (a .file) (a .codes) (a .profile) (a .n) (c .before .if1 .taken))
 
 slice-aggregate-give : tie.Need-slice-aggregate-give
 slice-aggregate-give c = search needs
@@ -25,8 +26,8 @@ give-requires c κs = search needs
 returns-2 : tie.Need-returns-2
 returns-2 c =
     let a = c .before .before .before .before .before .args in
-    let uncut = take-all 256 (a .card .references) (omega (arith, slice-aggregate-give (c .before))) in
-    c .give .ensures ∙ ap (give (a .s) (a .le)) (uncut ∙ references-of (a .file) (c .before .before .before .before .if1 .left) (c .before .before .before .if2 .taken) (a .card) (a .n))
+    let uncut = take-all 256 (a .profile .references) (omega (arith, slice-aggregate-give (c .before))) in
+    c .give .ensures ∙ ap (λ (d : Bytes). sessionOutputFor (give (a .s) (a .le) d)) (uncut ∙ references-of (a .file) (a .codes) (a .profile) (a .n) (c .before .before .before .before .if1 .left) (c .before .before .before .if2 .taken))
 
 give-personal-requires : tie.Need-give-personal-requires
 give-personal-requires c κs = omega (arith, c .before .before .pre, personal-count (c .before .before .args .file) (c .before .if1 .left) (c .if2 .left))
@@ -34,7 +35,7 @@ give-personal-requires c κs = omega (arith, c .before .before .pre, personal-co
 returns-3 : tie.Need-returns-3
 returns-3 c =
     let a = c .before .before .before .args in
-    c .give-personal .ensures ∙ ap (λ (d : Bytes). give (a .s) (a .le) d) (personal-of (a .file) (c .before .before .if1 .left) (c .before .if2 .left) (a .card) (a .n))
+    c .give-personal .ensures ∙ ap (λ (d : Bytes). sessionOutputFor (give (a .s) (a .le) d)) (personal-of (a .file) (a .codes) (a .profile) (a .n) (c .before .before .if1 .left) (c .before .if2 .left))
 
 pub give-record-spec : {M : Type 1} → statement M
 give-record-spec =

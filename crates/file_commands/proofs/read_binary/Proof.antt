@@ -6,9 +6,10 @@ use lib.ListN.{take, drop}
 use borrow.Author.Needs.{needs}
 use denote.Ref.{now}
 use Rattle.octets.specs.Octets.{Bytes, word}
-use Rattle.answers.specs.Reach.{leInReach}
+use Rattle.apdu.specs.Reach.{leInReach}
 use Rattle.rules.specs.Files.{certificateOf}
 use Rattle.rules.specs.Answers.{response}
+use Rattle.steps.specs.Steps.{sessionOutputFor}
 use Rattle.file_commands.proofs.Laws.{take-in-reach, no-binary-file, not-as-bytes, offset-past-end, part-read}
 use Rattle.file_commands.proofs.read_binary.Statement.{statement}
 use Rattle.file_commands.proofs.read_binary.Tie as tie
@@ -16,16 +17,16 @@ use Rattle.file_commands.proofs.read_binary.Tie as tie
 word-requires : tie.Need-word-requires
 word-requires c κs = search needs
 
-cast-offset : tie.Need-cast-offset
-cast-offset c = search needs
+wide16-requires : tie.Need-wide16-requires
+wide16-requires c κs = search needs
 
 session-status-requires : tie.Need-session-status-requires
 session-status-requires c κs = search needs
 
 returns : tie.Need-returns
 returns c =
-    let a = c .before .before .before .before .before .before .args in
-    c .session-status .ensures ∙ no-binary-file (a .s) (leInReach (a .h)) (now (a .authentication)) (now (a .signature)) (c .before .if1 .taken)
+    let a = c .before .before .before .before .before .before .before .args in
+    c .session-status .ensures ∙ ap sessionOutputFor (no-binary-file (a .s) (leInReach (a .h)) (now (a .authentication)) (now (a .signature)) (c .before .if1 .taken))
 
 certificate-file-requires : tie.Need-certificate-file-requires
 certificate-file-requires c κs = search needs
@@ -35,9 +36,9 @@ session-status-requires-2 c κs = search needs
 
 returns-2 : tie.Need-returns-2
 returns-2 c =
-    let a = c .before .before .before .before .before .before .before .before .args in
+    let a = c .before .before .before .before .before .before .before .before .before .args in
     c .session-status2 .ensures
-    ∙ not-as-bytes (a .s) (leInReach (a .h)) (now (a .authentication)) (now (a .signature)) (c .before .before .before .if1 .left) (ap not (sym (c .before .before .certificate-file .ensures)) ∙ c .before .if2 .taken)
+    ∙ ap sessionOutputFor (not-as-bytes (a .s) (leInReach (a .h)) (now (a .authentication)) (now (a .signature)) (c .before .before .before .if1 .left) (ap not (sym (c .before .before .certificate-file .ensures)) ∙ c .before .if2 .taken))
 
 certificate-length-requires : tie.Need-certificate-length-requires
 certificate-length-requires c κs = search needs
@@ -47,10 +48,14 @@ session-status-requires-3 c κs = search needs
 
 returns-3 : tie.Need-returns-3
 returns-3 c =
-    let a = c .before .before .before .before .before .before .before .before .before .before .args in
+    let a = c .before .before .before .before .before .before .before .before .before .before .before .args in
     c .session-status3 .ensures
-    ∙ offset-past-end (a .s) (leInReach (a .h)) (now (a .authentication)) (now (a .signature)) (c .before .before .before .before .before .if1 .left) (ap not (sym (c .before .before .before .before .certificate-file .ensures)) ∙ c .before .before .before .if2 .left)
-    (omega (arith, c .before .before .certificate-length .ensures, c .before .before .before .before .before .before .word .ensures, c .before .if3 .taken))
+    ∙ ap sessionOutputFor
+    (offset-past-end (a .s) (leInReach (a .h)) (now (a .authentication)) (now (a .signature)) (c .before .before .before .before .before .if1 .left) (ap not (sym (c .before .before .before .before .certificate-file .ensures)) ∙ c .before .before .before .if2 .left)
+    (omega (arith, c .before .before .certificate-length .ensures, c .before .before .before .before .before .before .before .word .ensures, c .before .before .before .before .before .before .wide16 .ensures, c .before .if3 .taken)))
+
+wide16-requires-2 : tie.Need-wide16-requires-2
+wide16-requires-2 c κs = search needs
 
 certificate-part-requires : tie.Need-certificate-part-requires
 certificate-part-requires c κs = search needs
@@ -60,22 +65,26 @@ session-data-requires c κs = search needs
 
 returns-4 : tie.Need-returns-4
 returns-4 c =
-    let a = c .before .before .before .before .before .before .before .before .before .before .before .args in
+    let a = c .before .before .before .before .before .before .before .before .before .before .before .before .before .args in
     let le : ℕ = a .h .le in
     let certificate : Bytes = certificateOf (a .s .selection .file) (now (a .authentication)) (now (a .signature)) in
     let offset : ℕ = word (a .h .p1) (a .h .p2) in
-    let part : now (c .before .certificate-part .result) ≡ take le (drop offset certificate) = c .before .certificate-part .ensures ∙ ap (λ (k : ℕ). take le (drop k certificate)) (c .before .before .before .before .before .before .before .word .ensures) in
+    let part : now (c .before .certificate-part .result) ≡ take le (drop offset certificate) =
+    c .before .certificate-part .ensures
+    ∙ ap (λ (n : ℕ). take n (drop (c .before .before .before .before .before .before .before .before .wide16 .result) certificate)) (c .before .before .wide162 .ensures)
+    ∙ ap (λ (k : ℕ). take le (drop k certificate)) (c .before .before .before .before .before .before .before .before .wide16 .ensures ∙ c .before .before .before .before .before .before .before .before .before .word .ensures) in
     c .session-data .ensures
-    ∙ ap (λ (d : Bytes). record { session = a .s; answer = response d 0x9000 }) (ap (take 256) part ∙ take-in-reach le (drop offset certificate))
-    ∙ part-read (a .s) (leInReach (a .h)) (now (a .authentication)) (now (a .signature)) (c .before .before .before .before .before .before .if1 .left) (ap not (sym (c .before .before .before .before .before .certificate-file .ensures)) ∙ c .before .before .before .before .if2 .left)
-    (omega (arith, c .before .before .before .certificate-length .ensures, c .before .before .before .before .before .before .before .word .ensures, c .before .before .if3 .left))
+    ∙ ap sessionOutputFor
+    (ap (λ (d : Bytes). record { session = a .s; answer = response d 0x9000 }) (ap (take 256) part ∙ take-in-reach le (drop offset certificate))
+    ∙ part-read (a .s) (leInReach (a .h)) (now (a .authentication)) (now (a .signature)) (c .before .before .before .before .before .before .before .if1 .left) (ap not (sym (c .before .before .before .before .before .before .certificate-file .ensures)) ∙ c .before .before .before .before .before .if2 .left)
+    (omega (arith, c .before .before .before .before .certificate-length .ensures, c .before .before .before .before .before .before .before .before .before .word .ensures, c .before .before .before .before .before .before .before .before .wide16 .ensures, c .before .before .before .if3 .left)))
 
 pub read-binary-spec : {M : Type 1} → statement M
 read-binary-spec =
     tie.close
     (tie.spec
     word-requires
-    cast-offset
+    wide16-requires
     session-status-requires
     returns
     certificate-file-requires
@@ -84,6 +93,7 @@ read-binary-spec =
     certificate-length-requires
     session-status-requires-3
     returns-3
+    wide16-requires-2
     certificate-part-requires
     session-data-requires
     returns-4)

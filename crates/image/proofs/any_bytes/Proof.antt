@@ -1,8 +1,7 @@
 use mathlib.Core.Path.{_∙_}
 use native.Mathlib.Omega.{arith}
 use denote.Ref.{now}
-use Rattle.rules.specs.declared.Fault.the-variants.{EndsEarly}
-use Rattle.image.proofs.Readers.{any-bytes-law}
+use Rattle.image.proofs.Readings.{any-bytes-law}
 use borrow.Author.Needs.{needs}
 use Rattle.image.proofs.any_bytes.Statement.{statement}
 use Rattle.image.proofs.any_bytes.Tie as tie
@@ -11,7 +10,7 @@ bytes-within-requires : tie.Need-bytes-within-requires
 bytes-within-requires c κs = search needs
 
 returns : tie.Need-returns
-returns c = c .bytes-within .ensures ∙ any-bytes-law EndsEarly (now (c .before .before .args .image)) (c .before .before .args .cursor) (c .before .before .args .n) (λ i. omega (arith, c .before .shared-slice-known .given i))
+returns c = c .bytes-within .ensures ∙ any-bytes-law 21 (now (c .before .before .args .image)) (c .before .before .args .cursor) (c .before .before .args .n) (λ i. omega (arith, c .before .shared-slice-known .given i))
 
 pub any-bytes-spec : {M : Type 1} → statement M
 any-bytes-spec = tie.close (tie.spec bytes-within-requires returns)

@@ -1,13 +1,12 @@
 use mathlib.Core.Path.{_≡_, refl, _∙_}
-use mathlib.Core.Bool.{_&&_}
 use Prim.Native.Nat.{_-_, _≤_}
 use native.Mathlib.Omega.{arith}
 use borrow.Author.Needs.{needs}
-use lib.Dec.{leb}
 use lib.ListN.{length, take, length-set}
 use denote.Ref.{now}
+use Rattle.rules.specs.Numbers.{faultNumber}
 use Rattle.rules.specs.Image.{bytesIf}
-use Rattle.image.specs.Cursors.{from}
+use Rattle.image.specs.Cursors.{from, within}
 use Rattle.image.proofs.Filling.{bytes-repeat, following, none-yet, one-more, no-more}
 use Rattle.image.proofs.bytes_within.Statement.{statement}
 use Rattle.image.proofs.bytes_within.Tie as tie
@@ -16,7 +15,7 @@ abbrev Inv-loop : tie.InvT-loop
 Inv-loop image n low high fault bytes₀ there₀ i₀ bytes there i =
     (i ≤ n)
     × (length bytes ≡ 256)
-    × (from image there (following (bytesIf (λ x. leb low x && leb x high) fault) (take i bytes) (n - i)) ≡ from image there₀ (bytesIf (λ x. leb low x && leb x high) fault n))
+    × (from image there (following (bytesIf (within low high) (faultNumber fault)) (take i bytes) (n - i)) ≡ from image there₀ (bytesIf (within low high) (faultNumber fault) n))
 
 abbrev μ-loop : tie.MeasureT-loop
 μ-loop image n low high fault bytes₀ there₀ i₀ bytes there i = n - i
@@ -24,7 +23,7 @@ abbrev μ-loop : tie.MeasureT-loop
 loop-holds : tie.Need-loop-holds Inv-loop μ-loop
 loop-holds c =
     let a = c .before .args in
-    (omega arith, refl, none-yet (bytes-repeat (λ x. leb (a .low) x && leb x (a .high)) (a .fault)) (now (a .image)) (a .n) (a .cursor))
+    (omega arith, refl, none-yet (bytes-repeat (within (a .low) (a .high)) (faultNumber (a .fault))) (now (a .image)) (a .n) (a .cursor))
 
 byte-within-requires : tie.Need-byte-within-requires Inv-loop μ-loop
 byte-within-requires c κs = search needs
@@ -44,14 +43,14 @@ loop-again c =
     let l = c .before .before .loop in (
       omega arith,
       simp length-set (l .inv .1),
-      one-more (bytes-repeat (λ x. leb (a .low) x && leb x (a .high)) (a .fault)) (now (a .image)) (l .bytes) (a .n) (l .i) (omega arith) (omega arith) _ _ _ (c .byte-within .ensures)
+      one-more (bytes-repeat (within (a .low) (a .high)) (faultNumber (a .fault))) (now (a .image)) (l .bytes) (a .n) (l .i) (omega arith) (omega arith) _ _ _ (c .byte-within .ensures)
           ∙ l .inv .2,
     )
 
 returns : tie.Need-returns Inv-loop μ-loop
 returns c =
     let a = c .before .before .before .args in
-    no-more (bytes-repeat (λ x. leb (a .low) x && leb x (a .high)) (a .fault)) (now (a .image)) (c .before .loop .bytes) (a .n) (c .before .loop .i) (omega arith) (omega arith) _
+    no-more (bytes-repeat (within (a .low) (a .high)) (faultNumber (a .fault))) (now (a .image)) (c .before .loop .bytes) (a .n) (c .before .loop .i) (omega arith) (omega arith) _
     ∙ c .before .loop .inv .2
 
 pub bytes-within-spec : {M : Type 1} → statement M

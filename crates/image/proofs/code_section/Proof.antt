@@ -1,5 +1,7 @@
+use mathlib.Core.Path.{refl}
 use denote.Ref.{now}
-use Rattle.image.proofs.Codes.{codes-read}
+use Rattle.rules.specs.Image.{codeSection}
+use Rattle.image.proofs.Readings.{after}
 use borrow.Author.Needs.{needs}
 use Rattle.image.proofs.code_section.Statement.{statement}
 use Rattle.image.proofs.code_section.Tie as tie
@@ -17,7 +19,14 @@ read-code-requires-3 : tie.Need-read-code-requires-3
 read-code-requires-3 c κs = search needs
 
 returns : tie.Need-returns
-returns c = codes-read (now (c .before .before .before .before .before .before .before .before .args .image)) (c .before .before .before .before .before .before .before .before .args .cursor) (c .before .before .before .before .before .before .count .result) (c .before .before .before .before .before .read-code .result .cursor) (c .before .before .before .before .read-code2 .result .cursor) (c .before .before .before .read-code3 .result .cursor) _ _ _ (c .before .before .before .before .before .before .count .ensures) (c .before .before .before .before .before .read-code .ensures) (c .before .before .before .before .read-code2 .ensures) (c .before .before .before .read-code3 .ensures)
+unfolding codeSection
+returns c =
+    let image = now (c .before .before .before .before .before .before .before .before .args .image) in
+    after image _ _ _ _ _ (c .before .before .before .before .before .before .count .ensures)
+    (after image _ _ _ _ _ (c .before .before .before .before .before .read-code .ensures)
+    (after image _ _ _ _ _ (c .before .before .before .before .read-code2 .ensures)
+    (after image _ _ _ _ _ (c .before .before .before .read-code3 .ensures)
+    refl)))
 
 pub code-section-spec : {M : Type 1} → statement M
 code-section-spec =

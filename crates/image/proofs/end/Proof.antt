@@ -1,7 +1,5 @@
-use mathlib.Core.Path.{sym, ap, _∙_}
 use denote.Ref.{now}
-use Rattle.image_reader.specs.declared.Found.{Found}
-use Rattle.image.proofs.Readers.{stopped-there, at-end, left-over}
+use Rattle.image.proofs.Readings.{stopped-there, at-end, left-over}
 use borrow.Author.Needs.{needs}
 use Rattle.image.proofs.end.Statement.{statement}
 use Rattle.image.proofs.end.Tie as tie
@@ -25,10 +23,10 @@ returns : tie.Need-returns
 returns c = stopped-there (now (c .before .before .before .before .args .image)) _ _ (c .before .cursor .given .1) _ _
 
 returns-2 : tie.Need-returns-2
-returns-2 c = left-over (now (c .before .before .before .before .before .before .before .args .image)) _ (sym (ap (λ (f : Found). f .next) (c .before .before .read-at .ensures)) ∙ c .enum-told .given .1) _ (c .before .before .before .before .cursor2 .given .1)
+returns-2 c = left-over (now (c .before .before .before .before .before .before .before .args .image)) _ _ _ (c .before .before .read-at .ensures) _ (c .before .before .before .before .cursor2 .given .1) (c .enum-told .given .1)
 
 returns-3 : tie.Need-returns-3
-returns-3 c = at-end (now (c .before .before .before .before .before .before .before .args .image)) _ (sym (ap (λ (f : Found). f .next) (c .before .before .read-at .ensures)) ∙ c .enum-told2 .given .1) _ (c .before .before .before .before .cursor2 .given .1)
+returns-3 c = at-end (now (c .before .before .before .before .before .before .before .args .image)) _ _ _ (c .before .before .read-at .ensures) _ (c .before .before .before .before .cursor2 .given .1) (c .enum-told2 .given .1)
 
 pub end-spec : {M : Type 1} → statement M
 end-spec =

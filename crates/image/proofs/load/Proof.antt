@@ -22,8 +22,8 @@ end-requires c κs = search needs
 enum-known-fault : tie.Need-enum-known-fault
 enum-known-fault c = search needs
 
-zero-card-requires : tie.Need-zero-card-requires
-zero-card-requires c κs = search needs
+card-requires : tie.Need-card-requires
+card-requires c κs = search needs
 
 enum-told : tie.Need-enum-told
 enum-told c = search needs
@@ -32,10 +32,16 @@ card-of-requires : tie.Need-card-of-requires
 card-of-requires c κs = search needs
 
 returns : tie.Need-returns
-returns c = simp (c .zero-card .ensures) (faulty (now (c .before .before .before .before .before .before .before .before .before .before .before .args .image)) _ _ _ _ _ _ _ _ _ (c .before .before .before .before .before .before .before .before .before .code-section .ensures) (c .before .before .before .before .before .before .before .before .key-section .ensures) (c .before .before .before .before .before .before .reference-section .ensures) (c .before .before .before .before .before .personal-section .ensures) (c .before .before .before .before .end .ensures) _ (c .before .before .fault .given .1))
+returns c =
+    simp (c .card .ensures)
+    (faulty (now (c .before .before .before .before .before .before .before .before .before .before .before .args .image)) _ _ _ _ _ _ _ _ _ (c .before .before .before .before .before .before .before .before .before .code-section .ensures) (c .before .before .before .before .before .before .before .before .key-section .ensures) (c .before .before .before .before .before .before .reference-section .ensures)
+    (c .before .before .before .before .before .personal-section .ensures) (c .before .before .before .before .end .ensures) _ (c .before .before .fault .given .1))
 
 returns-2 : tie.Need-returns-2
-returns-2 c = simp (c .card-of .ensures) (accepted (now (c .before .before .before .before .before .before .before .before .before .before .args .image)) _ _ _ _ _ _ _ _ _ (c .before .before .before .before .before .before .before .before .code-section .ensures) (c .before .before .before .before .before .before .before .key-section .ensures) (c .before .before .before .before .before .reference-section .ensures) (c .before .before .before .before .personal-section .ensures) (c .before .before .before .end .ensures) _ (c .before .enum-told .given .1))
+returns-2 c =
+    simp (c .card-of .ensures)
+    (accepted (now (c .before .before .before .before .before .before .before .before .before .before .args .image)) _ _ _ _ _ _ _ _ _ (c .before .before .before .before .before .before .before .before .code-section .ensures) (c .before .before .before .before .before .before .before .key-section .ensures) (c .before .before .before .before .before .reference-section .ensures)
+    (c .before .before .before .before .personal-section .ensures) (c .before .before .before .end .ensures) _ (c .before .enum-told .given .1))
 
 pub load-spec : {M : Type 1} → statement M
 load-spec =
@@ -47,7 +53,7 @@ load-spec =
     personal-section-requires
     end-requires
     enum-known-fault
-    zero-card-requires
+    card-requires
     enum-told
     card-of-requires
     returns

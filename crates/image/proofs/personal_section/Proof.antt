@@ -1,5 +1,6 @@
 use denote.Ref.{now}
-use Rattle.image.proofs.Records.{personal-read}
+use Rattle.rules.specs.Image.{personalSection}
+use Rattle.image.proofs.Readings.{after}
 use borrow.Author.Needs.{needs}
 use Rattle.image.proofs.personal_section.Statement.{statement}
 use Rattle.image.proofs.personal_section.Tie as tie
@@ -11,7 +12,8 @@ read-records-requires : tie.Need-read-records-requires
 read-records-requires c κs = search needs
 
 returns : tie.Need-returns
-returns c = personal-read (now (c .before .before .before .args .image)) (c .before .before .before .args .cursor) (c .before .count .result) (c .read-records .result .cursor) (c .read-records .result .personal) (c .before .count .ensures) (c .read-records .ensures)
+unfolding personalSection
+returns c = after (now (c .before .before .before .args .image)) _ _ _ _ _ (c .before .count .ensures) (c .read-records .ensures)
 
 pub personal-section-spec : {M : Type 1} → statement M
 personal-section-spec = tie.close (tie.spec count-requires read-records-requires returns)

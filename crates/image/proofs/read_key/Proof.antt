@@ -1,5 +1,8 @@
+use mathlib.Core.Path.{refl}
 use denote.Ref.{now}
-use Rattle.image.proofs.Keys.{key-read}
+use Rattle.rules.specs.declared.Fault.the-variants.{BadKey}
+use Rattle.rules.specs.Image.{readKey}
+use Rattle.image.proofs.Readings.{after, required-law}
 use borrow.Author.Needs.{needs}
 use Rattle.image.proofs.read_key.Statement.{statement}
 use Rattle.image.proofs.read_key.Tie as tie
@@ -19,11 +22,18 @@ is-signature-key-requires c κs = search needs
 is-authentication-key-requires : tie.Need-is-authentication-key-requires
 is-authentication-key-requires c κs = search needs
 
-judged-requires : tie.Need-judged-requires
-judged-requires c κs = search needs
+required-requires : tie.Need-required-requires
+required-requires c κs = search needs
 
 returns : tie.Need-returns
-returns c = simp (c .judged .ensures, c .before .before .is-signature-key .ensures, c .before .is-authentication-key .ensures, c .before .before .before .word .ensures) (key-read (now (c .before .before .before .before .before .before .before .args .image)) (c .before .before .before .before .before .before .before .args .last) (c .before .before .before .before .before .before .before .args .cursor) (c .before .before .before .before .before .any-byte .result .cursor) (c .before .before .before .before .any-byte2 .result .cursor) (c .before .before .before .before .before .any-byte .result .byte) (c .before .before .before .before .any-byte2 .result .byte) (c .before .before .before .before .before .any-byte .ensures) (c .before .before .before .before .any-byte2 .ensures))
+unfolding readKey
+returns c =
+    let image = now (c .before .before .before .before .before .before .before .args .image) in
+    simp (c .required .ensures, c .before .before .is-signature-key .ensures, c .before .is-authentication-key .ensures, c .before .before .before .word .ensures)
+    (after image _ _ _ _ _ (c .before .before .before .before .before .any-byte .ensures)
+    (after image _ _ _ _ _ (c .before .before .before .before .any-byte2 .ensures)
+    (after image _ _ _ _ _ (required-law image _ _ BadKey)
+    refl)))
 
 pub read-key-spec : {M : Type 1} → statement M
 read-key-spec =
@@ -34,5 +44,5 @@ read-key-spec =
     word-requires
     is-signature-key-requires
     is-authentication-key-requires
-    judged-requires
+    required-requires
     returns)

@@ -5,7 +5,7 @@ use native.Mathlib.Omega.{arith}
 use borrow.Author.Needs.{needs}
 use denote.Ref.{now}
 use Rattle.image.specs.Cursors.{from}
-use Rattle.image.specs.Sections.{markedKeys}
+use Rattle.image.specs.Marks.{markedKeys}
 use Rattle.image.proofs.Keys.{marksWith, marks-kept, marksFrom, no-key-yet, one-key-more, no-key-more}
 use Rattle.image.proofs.read_keys.Statement.{statement}
 use Rattle.image.proofs.read_keys.Tie as tie
@@ -34,10 +34,19 @@ loop-less : tie.Need-loop-less Inv-loop μ-loop
 loop-less c = omega arith
 
 loop-again : tie.Need-loop-again Inv-loop μ-loop
-loop-again c = (omega arith, rw (c .with-mark .ensures) (marks-kept _ _), rw (c .with-mark .ensures) (one-key-more (now (c .before .before .before .before .before .args .image)) (c .before .before .before .before .before .args .n) (c .before .before .before .loop .i) (c .before .before .before .loop .last) (c .before .before .before .loop .keys) _ _ _ (c .before .read-key .ensures) (omega arith) ∙ c .before .before .before .loop .inv .2))
+loop-again c =
+    let a = c .before .before .before .before .before .args in
+    let l = c .before .before .before .loop in (
+      omega arith,
+      rw (c .with-mark .ensures) (marks-kept _ _),
+      rw (c .with-mark .ensures)
+          (one-key-more (now (a .image)) (a .n) (l .i) (l .last) (l .keys) _ _ _ (c .before .read-key .ensures) (omega arith) ∙ l .inv .2),
+    )
 
 returns : tie.Need-returns Inv-loop μ-loop
-returns c = no-key-more (now (c .before .before .before .args .image)) (c .before .before .before .args .n) (c .before .loop .i) (c .before .loop .last) (c .before .loop .keys) _ (c .before .loop .inv .1) (omega arith) ∙ c .before .loop .inv .2
+returns c =
+    let l = c .before .loop in
+    no-key-more (now (c .before .before .before .args .image)) (c .before .before .before .args .n) (l .i) (l .last) (l .keys) _ (l .inv .1) (omega arith) ∙ l .inv .2
 
 pub read-keys-spec : {M : Type 1} → statement M
 read-keys-spec =

@@ -19,11 +19,11 @@ Inv-loop image personal₀ there₀ i₀ personal there i =
 abbrev μ-loop : tie.MeasureT-loop
 μ-loop image personal₀ there₀ i₀ personal there i = 16 - i
 
-zero-records-requires : tie.Need-zero-records-requires Inv-loop μ-loop
-zero-records-requires c κs = search needs
+records-requires : tie.Need-records-requires Inv-loop μ-loop
+records-requires c κs = search needs
 
 loop-holds : tie.Need-loop-holds Inv-loop μ-loop
-loop-holds c = (omega arith, rw (c .zero-records .ensures), none-yet records-repeat (now (c .before .before .args .image)) 16 (c .before .before .args .cursor))
+loop-holds c = (omega arith, rw (c .records .ensures), none-yet records-repeat (now (c .before .before .args .image)) 16 (c .before .before .args .cursor))
 
 read-record-requires : tie.Need-read-record-requires Inv-loop μ-loop
 read-record-requires c κs = search needs
@@ -41,7 +41,13 @@ loop-less : tie.Need-loop-less Inv-loop μ-loop
 loop-less c = omega arith
 
 loop-again : tie.Need-loop-again Inv-loop μ-loop
-loop-again c = (omega arith, simp length-set (c .before .before .before .loop .inv .1), one-more records-repeat (now (c .before .before .before .before .before .before .args .image)) (c .before .before .before .loop .personal) 16 (c .before .before .before .loop .i) (omega arith) (omega arith) _ _ _ (c .before .read-record .ensures) ∙ c .before .before .before .loop .inv .2)
+loop-again c =
+    let l = c .before .before .before .loop in (
+      omega arith,
+      simp length-set (l .inv .1),
+      one-more records-repeat (now (c .before .before .before .before .before .before .args .image)) (l .personal) 16 (l .i) (omega arith) (omega arith) _ _ _ (c .before .read-record .ensures)
+          ∙ l .inv .2,
+    )
 
 returns : tie.Need-returns Inv-loop μ-loop
 returns c =
@@ -57,7 +63,7 @@ read-records-spec =
     (tie.spec
     Inv-loop
     μ-loop
-    zero-records-requires
+    records-requires
     loop-holds
     read-record-requires
     mul-personal

@@ -19,28 +19,23 @@ part-requires c κs = search needs
 filled-21-requires : tie.Need-filled-21-requires
 filled-21-requires c κs = search needs
 
-active-key-requires : tie.Need-active-key-requires
-active-key-requires c κs = search needs
+active-usable-requires : tie.Need-active-usable-requires
+active-usable-requires c κs = search needs
 
-usable-requires : tie.Need-usable-requires
-usable-requires c κs = search needs
+active-usable-requires-2 : tie.Need-active-usable-requires-2
+active-usable-requires-2 c κs = search needs
 
-active-key-requires-2 : tie.Need-active-key-requires-2
-active-key-requires-2 c κs = search needs
-
-usable-requires-2 : tie.Need-usable-requires-2
-usable-requires-2 c κs = search needs
-
-judged-requires : tie.Need-judged-requires
-judged-requires c κs = search needs
+required-requires : tie.Need-required-requires
+required-requires c κs = search needs
 
 returns : tie.Need-returns
 returns c =
-    let a = c .before .before .before .before .before .before .before .before .before .before .before .before .before .args in
-    let d : Bytes = take 21 (c .before .before .before .before .before .before .before .before .before .before .any-bytes .result .bytes) in
-    let references : c .before .before .before .before .before .filled-21 .result ≡ filled 21 (take 21 d) = c .before .before .before .before .before .filled-21 .ensures ∙ ap (λ (b : Bytes). filled 21 (take 21 b)) (c .before .before .before .before .before .before .part .ensures) in
-    simp (c .judged .ensures, c .before .before .before .usable .ensures, c .before .usable2 .ensures, c .before .before .before .before .active-key .ensures, c .before .before .active-key2 .ensures, references)
-    (references-read (now (a .image)) (a .keys) (a .cursor) (c .before .before .before .before .before .before .before .before .before .before .before .count .result) (c .before .before .before .before .before .before .before .before .before .before .any-bytes .result .cursor) d (c .before .before .before .before .before .before .before .before .before .before .before .count .ensures) (c .before .before .before .before .before .before .before .before .before .before .any-bytes .ensures))
+    let a = c .before .before .before .before .before .before .before .before .before .before .before .args in
+    let d : Bytes = take 21 (c .before .before .before .before .before .before .before .before .any-bytes .result .bytes) in
+    let references : c .before .before .before .filled-21 .result ≡ filled 21 (take 21 d) =
+    c .before .before .before .filled-21 .ensures ∙ ap (λ (b : Bytes). filled 21 (take 21 b)) (c .before .before .before .before .part .ensures) in
+    simp (c .required .ensures, c .before .before .active-usable .ensures, c .before .active-usable2 .ensures, references)
+    (references-read (a .keys) (now (a .image)) (a .cursor) _ (c .before .before .before .before .before .before .before .before .any-bytes .result .cursor) d (c .before .before .before .before .before .before .before .before .before .count .ensures) (c .before .before .before .before .before .before .before .before .any-bytes .ensures))
 
 pub reference-section-spec : {M : Type 1} → statement M
 reference-section-spec =
@@ -50,9 +45,7 @@ reference-section-spec =
     any-bytes-requires
     part-requires
     filled-21-requires
-    active-key-requires
-    usable-requires
-    active-key-requires-2
-    usable-requires-2
-    judged-requires
+    active-usable-requires
+    active-usable-requires-2
+    required-requires
     returns)

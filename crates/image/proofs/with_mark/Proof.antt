@@ -1,5 +1,5 @@
 use mathlib.Core.Path.{refl}
-use Rattle.image.specs.Sections.{withMark}
+use Rattle.image.specs.Marks.{withMark}
 use borrow.Author.Needs.{needs}
 use Rattle.image.proofs.with_mark.Statement.{statement}
 use Rattle.image.proofs.with_mark.Tie as tie

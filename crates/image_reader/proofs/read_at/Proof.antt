@@ -44,6 +44,7 @@ use Rattle.image_reader.specs.declared.Reader.{Reader}
 use Rattle.image_reader.specs.declared.NextByte.{NextByte}
 use Rattle.image_reader.specs.declared.Found.{Found}
 use Rattle.image_reader.proofs.Walks.{B, twice}
+use Rattle.image_reader.proofs.Standing.{found-stands}
 use Rattle.image_reader.proofs.Reader as T
 use Rattle.image_reader.proofs.Reader.Laws as T′
 use Rattle.image_reader.proofs.NextByte as S
@@ -151,7 +152,7 @@ module _ {M : Type 1} (𝓤 : URA M) (H : Heap 𝓤) (A : Atoms 𝓤) (W : Given
   exits : (f : Found) (u : Val) → Is F.the-row f (u ∷ []) → f ≡ foundAt (now s) n → ent 𝓤 (⋆ 𝓤 H A ((‵ (flft κ q) ⊛ ‵ ftrue) ∷ ‵ Own ∷ [])) (Post u)
   exits f u is e =
       qed W ((‵ (flft κ q) ⊛ ‵ ftrue) ∷ ‵ Own ∷ []) ∵
-      suffices ! _ (ends-at 𝓤 H A read-at.ended stayed (read-at.clauses 𝓤 H A mem run) W (((κ, tt), (q, tt), tt, (s, (n, tt)), (v ∷ [], (vint w64 n ∷ [], tt))), tt) u f (tt, (tt, tt)) (tt, (tt, tt))) $ says ! e $
+      suffices ! _ (ends-at 𝓤 H A read-at.ended stayed (read-at.clauses 𝓤 H A mem run) W (((κ, tt), (q, tt), tt, (s, (n, tt)), (v ∷ [], (vint w64 n ∷ [], tt))), tt) u f (tt, (tt, tt)) (tt, (tt, tt))) $ says ! (found-stands (now s) n f e) $
       frame ! $ nothing ! $ owned ! usize (Is usize) (uint-makes 𝓤 H A W w64) n _ (refl, ok) $ fjoin ! $ move ! (1 ∷ 0 ∷ []) $ fjoin ! $ frame ! $ owned ! F.the-row (Is F.the-row) (LL.makes F.the-type F′.the-plain 𝓤 H A) f _ is $ done !
 
   module _ (C : Calls 𝓤 H) (Λ : Loops 𝓤 H) (fm : FmC 𝓤 H (W .laws) C) (known-new : Triple 𝓤 (C #new) (New 𝓤 H A mem run)) (known-next : Triple 𝓤 (C #next) (Next 𝓤 H A mem run)) (known-after : Triple 𝓤 (C #after) (After 𝓤 H A mem run)) (known-place : Triple 𝓤 (C #place) (Place 𝓤 H A mem run)) where

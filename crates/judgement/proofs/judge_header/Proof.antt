@@ -1,9 +1,9 @@
-use Rattle.judgement.proofs.Dispatch.{class-unknown, instruction-unknown, chaining-refused, parameters-refused, lengths-refused, admitted}
-use borrow.Author.Tests.{not-false}
+use mathlib.Core.Path.{sym, ap, _∙_}
 use mathlib.Core.Bool.{not}
 use denote.Ref.{now}
-use mathlib.Core.Path.{sym, ap, _∙_}
 use borrow.Author.Needs.{needs}
+use Rattle.steps.specs.Steps.{stepOutputFor}
+use Rattle.judgement.proofs.Dispatch.{class-unknown, instruction-unknown, chaining-refused, parameters-next}
 use Rattle.judgement.proofs.judge_header.Statement.{statement}
 use Rattle.judgement.proofs.judge_header.Tie as tie
 
@@ -16,8 +16,9 @@ refuse-requires c κs = search needs
 returns : tie.Need-returns
 returns c =
     let a = c .before .before .before .before .before .before .args in
+    let class = ap not (sym (c .before .before .known-class .ensures)) ∙ c .before .if1 .taken in
     c .refuse .ensures
-    ∙ class-unknown (a .card) (a .h) (now (a .d)) (now (a .authentication)) (now (a .signature)) (ap not (sym (c .before .before .known-class .ensures)) ∙ c .before .if1 .taken)
+    ∙ ap stepOutputFor (class-unknown (a .card) (a .h) (now (a .d)) (now (a .authentication)) (now (a .signature)) class)
 
 known-instruction-requires : tie.Need-known-instruction-requires
 known-instruction-requires c κs = search needs
@@ -28,8 +29,10 @@ refuse-requires-2 c κs = search needs
 returns-2 : tie.Need-returns-2
 returns-2 c =
     let a = c .before .before .before .before .before .before .before .before .args in
+    let class = ap not (sym (c .before .before .before .before .known-class .ensures)) ∙ c .before .before .before .if1 .left in
+    let instruction = ap not (sym (c .before .before .known-instruction .ensures)) ∙ c .before .if2 .taken in
     c .refuse2 .ensures
-    ∙ instruction-unknown (a .card) (a .h) (now (a .d)) (now (a .authentication)) (now (a .signature)) (ap not (sym (c .before .before .before .before .known-class .ensures)) ∙ c .before .before .before .if1 .left) (ap not (sym (c .before .before .known-instruction .ensures)) ∙ c .before .if2 .taken)
+    ∙ ap stepOutputFor (instruction-unknown (a .card) (a .h) (now (a .d)) (now (a .authentication)) (now (a .signature)) class instruction)
 
 bad-chaining-requires : tie.Need-bad-chaining-requires
 bad-chaining-requires c κs = search needs
@@ -40,41 +43,26 @@ refuse-requires-3 c κs = search needs
 returns-3 : tie.Need-returns-3
 returns-3 c =
     let a = c .before .before .before .before .before .before .before .before .before .before .args in
+    let class = ap not (sym (c .before .before .before .before .before .before .known-class .ensures)) ∙ c .before .before .before .before .before .if1 .left in
+    let instruction = ap not (sym (c .before .before .before .before .known-instruction .ensures)) ∙ c .before .before .before .if2 .left in
+    let chaining = sym (c .before .before .bad-chaining .ensures) ∙ c .before .if3 .taken in
     c .refuse3 .ensures
-    ∙ chaining-refused (a .card) (a .h) (now (a .d)) (now (a .authentication)) (now (a .signature)) (ap not (sym (c .before .before .before .before .before .before .known-class .ensures)) ∙ c .before .before .before .before .before .if1 .left) (ap not (sym (c .before .before .before .before .known-instruction .ensures)) ∙ c .before .before .before .if2 .left) (sym (c .before .before .bad-chaining .ensures) ∙ c .before .if3 .taken)
+    ∙ ap stepOutputFor (chaining-refused (a .card) (a .h) (now (a .d)) (now (a .authentication)) (now (a .signature)) class instruction chaining)
 
-good-parameters-requires : tie.Need-good-parameters-requires
-good-parameters-requires c κs = search needs
+named-requires : tie.Need-named-requires
+named-requires c κs = search needs
 
-refuse-requires-4 : tie.Need-refuse-requires-4
-refuse-requires-4 c κs = search needs
+judge-named-requires : tie.Need-judge-named-requires
+judge-named-requires c κs = search needs
 
 returns-4 : tie.Need-returns-4
 returns-4 c =
-    let a = c .before .before .before .before .before .before .before .before .before .before .before .before .args in
-    c .refuse4 .ensures
-    ∙ parameters-refused (a .card) (a .h) (now (a .d)) (now (a .authentication)) (now (a .signature)) (ap not (sym (c .before .before .before .before .before .before .before .before .known-class .ensures)) ∙ c .before .before .before .before .before .before .before .if1 .left) (ap not (sym (c .before .before .before .before .before .before .known-instruction .ensures)) ∙ c .before .before .before .before .before .if2 .left) (sym (c .before .before .before .before .bad-chaining .ensures) ∙ c .before .before .before .if3 .left) (ap not (sym (c .before .before .good-parameters .ensures)) ∙ c .before .if4 .taken)
-
-good-lengths-requires : tie.Need-good-lengths-requires
-good-lengths-requires c κs = search needs
-
-refuse-requires-5 : tie.Need-refuse-requires-5
-refuse-requires-5 c κs = search needs
-
-returns-5 : tie.Need-returns-5
-returns-5 c =
-    let a = c .before .before .before .before .before .before .before .before .before .before .before .before .before .before .args in
-    c .refuse5 .ensures
-    ∙ lengths-refused (a .card) (a .h) (now (a .d)) (now (a .authentication)) (now (a .signature)) (ap not (sym (c .before .before .before .before .before .before .before .before .before .before .known-class .ensures)) ∙ c .before .before .before .before .before .before .before .before .before .if1 .left) (ap not (sym (c .before .before .before .before .before .before .before .before .known-instruction .ensures)) ∙ c .before .before .before .before .before .before .before .if2 .left) (sym (c .before .before .before .before .before .before .bad-chaining .ensures) ∙ c .before .before .before .before .before .if3 .left) (ap not (sym (c .before .before .before .before .good-parameters .ensures)) ∙ c .before .before .before .if4 .left) (ap not (sym (c .before .before .good-lengths .ensures)) ∙ c .before .if5 .taken)
-
-own-rules-requires : tie.Need-own-rules-requires
-own-rules-requires c κs = record { sized = c .before .before .before .before .before .before .before .before .before .before .before .before .before .pre; lengths = not-false _ (ap not (sym (c .before .good-lengths .ensures)) ∙ c .if5 .left) }
-
-returns-6 : tie.Need-returns-6
-returns-6 c =
-    let a = c .before .before .before .before .before .before .before .before .before .before .before .before .before .before .args in
-    c .own-rules .ensures
-    ∙ admitted (a .card) (a .h) (now (a .d)) (now (a .authentication)) (now (a .signature)) (ap not (sym (c .before .before .before .before .before .before .before .before .before .before .known-class .ensures)) ∙ c .before .before .before .before .before .before .before .before .before .if1 .left) (ap not (sym (c .before .before .before .before .before .before .before .before .known-instruction .ensures)) ∙ c .before .before .before .before .before .before .before .if2 .left) (sym (c .before .before .before .before .before .before .bad-chaining .ensures) ∙ c .before .before .before .before .before .if3 .left) (ap not (sym (c .before .before .before .before .good-parameters .ensures)) ∙ c .before .before .before .if4 .left) (ap not (sym (c .before .before .good-lengths .ensures)) ∙ c .before .if5 .left)
+    let a = c .before .before .before .before .before .before .before .before .before .before .before .args in
+    let class = ap not (sym (c .before .before .before .before .before .before .before .known-class .ensures)) ∙ c .before .before .before .before .before .before .if1 .left in
+    let instruction = ap not (sym (c .before .before .before .before .before .known-instruction .ensures)) ∙ c .before .before .before .before .if2 .left in
+    let chaining = sym (c .before .before .before .bad-chaining .ensures) ∙ c .before .before .if3 .left in
+    simp (c .before .named .ensures) at (c .judge-named .ensures)
+    ∙ ap stepOutputFor (parameters-next (a .card) (a .h) (now (a .d)) (now (a .authentication)) (now (a .signature)) class instruction chaining)
 
 pub judge-header-spec : {M : Type 1} → statement M
 judge-header-spec =
@@ -89,11 +77,6 @@ judge-header-spec =
     bad-chaining-requires
     refuse-requires-3
     returns-3
-    good-parameters-requires
-    refuse-requires-4
-    returns-4
-    good-lengths-requires
-    refuse-requires-5
-    returns-5
-    own-rules-requires
-    returns-6)
+    named-requires
+    judge-named-requires
+    returns-4)

@@ -3,6 +3,7 @@ use lib.ListN.{take}
 use Rattle.pkcs1.specs.Pkcs1.{padded}
 use Rattle.octets.proofs.Cutting.{cut-length}
 use denote.Ref.{now}
+use Rattle.steps.specs.Steps.{sessionOutputFor}
 use Rattle.key_commands.proofs.Jobs.{authenticate-elsewhere, authenticate-closed, authenticate-job}
 use borrow.Author.Needs.{needs}
 use Rattle.key_commands.proofs.internal_authenticate.Statement.{statement}
@@ -14,7 +15,7 @@ session-status-requires c κs = search needs
 returns : tie.Need-returns
 returns c =
     let s = c .before .before .before .before .args in
-    c .session-status .ensures ∙ authenticate-elsewhere (s .card) (s .s) (s .h) (take 245 (now (s .d))) (c .before .if1 .taken)
+    c .session-status .ensures ∙ ap sessionOutputFor (authenticate-elsewhere (s .codes) (s .references) (s .s) (s .h) (take 245 (now (s .d))) (c .before .if1 .taken))
 
 code-of-requires : tie.Need-code-of-requires
 code-of-requires c κs = search needs
@@ -25,7 +26,7 @@ session-status-requires-2 c κs = search needs
 returns-2 : tie.Need-returns-2
 returns-2 c =
     let s = c .before .before .before .before .before .before .before .args in
-    c .session-status2 .ensures ∙ authenticate-closed (s .card) (s .s) (s .h) (take 245 (now (s .d))) (c .before .before .before .before .if1 .left) (c .before .before .before .code-of .ensures) (c .before .if2 .taken)
+    c .session-status2 .ensures ∙ ap sessionOutputFor (authenticate-closed (s .codes) (s .references) (s .s) (s .h) (take 245 (now (s .d))) (c .before .before .before .before .if1 .left) (c .before .before .before .code-of .ensures) (c .before .if2 .taken))
 
 key-for-requires : tie.Need-key-for-requires
 key-for-requires c κs = search needs
@@ -42,7 +43,7 @@ hand-out-requires c κs = search needs
 returns-3 : tie.Need-returns-3
 returns-3 c =
     let s = c .before .before .before .before .before .before .before .before .before .before .args in
-    c .hand-out .ensures ∙ authenticate-job (s .card) (s .s) (s .h) (take 245 (now (s .d))) (c .before .before .before .before .before .before .before .if1 .left) (c .before .before .before .before .before .before .code-of .ensures) (c .before .before .before .before .if2 .left) (c .before .before .before .key-for .ensures) (c .before .padded-block .ensures ∙ ap padded (c .before .before .part .ensures))
+    c .hand-out .ensures ∙ ap sessionOutputFor (authenticate-job (s .codes) (s .references) (s .s) (s .h) (take 245 (now (s .d))) (c .before .before .before .before .before .before .before .if1 .left) (c .before .before .before .before .before .before .code-of .ensures) (c .before .before .before .before .if2 .left) (c .before .before .before .key-for .ensures) (c .before .padded-block .ensures ∙ ap padded (c .before .before .part .ensures)))
 
 pub internal-authenticate-spec : {M : Type 1} → statement M
 internal-authenticate-spec =

@@ -1,15 +1,20 @@
+use mathlib.Core.Path.{refl, _∙_}
 use borrow.Author.Needs.{needs}
+use Rattle.rules.specs.Answers.{sessionStatus}
+use Rattle.steps.proofs.Laws.{with-codes}
 use Rattle.key_commands.proofs.turned_down.Statement.{statement}
 use Rattle.key_commands.proofs.turned_down.Tie as tie
 
-with-session-requires : tie.Need-with-session-requires
-with-session-requires c κs = search needs
+session-status-requires : tie.Need-session-status-requires
+session-status-requires c κs = search needs
 
-status-requires : tie.Need-status-requires
-status-requires c κs = search needs
+in-session-requires : tie.Need-in-session-requires
+in-session-requires c κs = search needs
 
 returns : tie.Need-returns
-returns c = simp (c .status .ensures, c .before .with-session .ensures)
+returns c =
+    let a = c .before .before .args in
+    c .in-session .ensures ∙ with-codes (sessionStatus (a .s) (a .sw)) refl (c .before .session-status .ensures)
 
 pub turned-down-spec : {M : Type 1} → statement M
-turned-down-spec = tie.close (tie.spec with-session-requires status-requires returns)
+turned-down-spec = tie.close (tie.spec session-status-requires in-session-requires returns)

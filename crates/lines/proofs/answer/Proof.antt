@@ -4,10 +4,18 @@ use borrow.Author.Tests.{not-false}
 use denote.Ref.{now}
 use Rattle.octets.proofs.Strings.{take-rest}
 use Rattle.hex.specs.Hex.{isHex}
+use Rattle.octets.specs.Octets.{blank}
+use Rattle.rules.specs.declared.Card.{Card}
+use Rattle.rules.specs.Numbers.{Returned}
+use Rattle.lines.specs.Lines.{Said, said}
 use Rattle.lines.proofs.Answers.{too-long, by-reset, no-hex, by-call}
 use borrow.Author.Needs.{needs}
 use Rattle.lines.proofs.answer.Statement.{statement}
 use Rattle.lines.proofs.answer.Tie as tie
+
+-- What is said of a reset, by what it returned and the card after it.
+abbrev resetSaid : Returned × Card → Said
+resetSaid x = said (record { returned = x .0; card = x .1; buffer = blank 258 })
 
 unanswered-requires : tie.Need-unanswered-requires
 unanswered-requires c κs = search needs
@@ -35,7 +43,9 @@ shown-requires c κs = search needs
 returns-2 : tie.Need-returns-2
 returns-2 c =
     let a = c .before .before .before .before .before .before .before .before .before .before .args in
-    c .shown .ensures ∙ simp (c .before .power-reset .ensures, c .before .before .blank-258 .ensures) (by-reset (a .card) (now (a .authentication)) (now (a .signature)) (now (a .line)) (c .before .before .before .before .before .before .if1 .left) (c .before .before .before .before .equal .ensures) (c .before .before .before .if2 .taken))
+    c .shown .ensures
+    ∙ rw (c .before .before .blank-258 .ensures) (ap resetSaid (c .before .power-reset .ensures))
+    ∙ (by-reset (a .card) (now (a .authentication)) (now (a .signature)) (now (a .line)) (c .before .before .before .before .before .before .if1 .left) (c .before .before .before .before .equal .ensures) (c .before .before .before .if2 .taken))
 
 part-requires : tie.Need-part-requires
 part-requires c κs = search needs

@@ -1,7 +1,5 @@
 use mathlib.Core.Path.{ap, _∙_}
 use denote.Ref.{now}
-use Rattle.octets.specs.Octets.{Bytes}
-use Rattle.rules.specs.declared.Outcome.{Outcome}
 use Rattle.rules.specs.Edge.{command}
 use Rattle.lines.specs.Lines.{said, answerTo}
 use borrow.Author.Needs.{needs}
@@ -24,7 +22,7 @@ returns : tie.Need-returns
 unfolding answerTo
 returns c =
     let a = c .before .before .before .before .before .before .before .before .args in
-    c .shown .ensures ∙ ap (λ (x : Outcome × Bytes). said (x .0) (x .1)) (c .before .before .command .ensures ∙ ap (command (a .card) (now (a .apdu)) (now (a .authentication)) (now (a .signature))) (c .before .before .before .before .blank-258 .ensures))
+    c .shown .ensures ∙ ap said (c .before .before .command .ensures ∙ ap (command (a .card) (now (a .apdu)) (now (a .authentication)) (now (a .signature))) (c .before .before .before .before .blank-258 .ensures))
 
 pub answer-command-spec : {M : Type 1} → statement M
 answer-command-spec =

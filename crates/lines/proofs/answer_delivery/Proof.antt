@@ -1,7 +1,5 @@
 use mathlib.Core.Path.{ap, _∙_}
 use denote.Ref.{now}
-use Rattle.octets.specs.Octets.{Bytes}
-use Rattle.rules.specs.declared.Outcome.{Outcome}
 use Rattle.rules.specs.Edge.{delivery}
 use Rattle.lines.specs.Lines.{said}
 use borrow.Author.Needs.{needs}
@@ -23,7 +21,7 @@ shown-requires c κs = search needs
 returns : tie.Need-returns
 returns c =
     let a = c .before .before .before .before .before .before .args in
-    c .shown .ensures ∙ ap (λ (x : Outcome × Bytes). said (x .0) (x .1)) (c .before .before .delivery .ensures ∙ ap (delivery (a .card) (now (a .result))) (c .before .before .before .before .blank-258 .ensures))
+    c .shown .ensures ∙ ap said (c .before .before .delivery .ensures ∙ ap (delivery (a .card) (now (a .result))) (c .before .before .before .before .blank-258 .ensures))
 
 pub answer-delivery-spec : {M : Type 1} → statement M
 answer-delivery-spec =

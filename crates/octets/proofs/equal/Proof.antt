@@ -1,21 +1,21 @@
--- What is left of the two strings decides.
-use Prim.Native.Nat.{_≤_, _-_}
-use mathlib.Core.Path.{_≡_, sym, _∙_}
+-- The bytes before the index, and what is left of the two strings, decide.
+use Prim.Native.Nat.{_-_}
+use mathlib.Core.Path.{_≡_, refl, sym, _∙_}
+use mathlib.Core.Bool.{_&&_}
 use native.Mathlib.Omega.{arith}
-use borrow.Author.Needs.{needs}
 use lib.ListN.{length, drop}
 use denote.Ref.{now}
 use Rattle.octets.specs.Octets.{same}
 use Rattle.octets.proofs.Words.{unlike-length}
-use Rattle.octets.proofs.Loops.{same-more, same-stop, same-end}
+use Rattle.octets.proofs.Loops.{same-more, same-end}
 use Rattle.octets.proofs.equal.Statement.{statement}
 use Rattle.octets.proofs.equal.Tie as tie
 
 abbrev Inv-loop : tie.InvT-loop
-Inv-loop a b i₀ i = (i ≤ length a) × (length a ≡ length b) × (same a b ≡ same (drop i a) (drop i b))
+Inv-loop a b alike₀ i₀ alike i = (length a ≡ length b) × (same a b ≡ (alike && same (drop i a) (drop i b)))
 
 abbrev μ-loop : tie.MeasureT-loop
-μ-loop a b i₀ i = length a - i
+μ-loop a b alike₀ i₀ alike i = length a - i
 
 returns : tie.Need-returns Inv-loop μ-loop
 returns c =
@@ -23,19 +23,13 @@ returns c =
     sym (unlike-length (now (s .a)) (now (s .b)) (λ e. omega arith))
 
 loop-holds : tie.Need-loop-holds Inv-loop μ-loop
-loop-holds c = search needs
+loop-holds c = (c .if1 .left, refl)
 
-shared-slice-read-if2 : tie.Need-shared-slice-read-if2 Inv-loop μ-loop
-shared-slice-read-if2 c = omega arith
+shared-slice-read-alike : tie.Need-shared-slice-read-alike Inv-loop μ-loop
+shared-slice-read-alike c = omega arith
 
-shared-slice-read-if2-2 : tie.Need-shared-slice-read-if2-2 Inv-loop μ-loop
-shared-slice-read-if2-2 c = omega arith
-
-returns-2 : tie.Need-returns-2 Inv-loop μ-loop
-returns-2 c =
-    let l = c .before .before .before .before in
-    let s = l .before .before .args in
-    sym (l .loop .inv .2 ∙ same-stop (now (s .a)) (now (s .b)) (l .loop .i) (omega arith) (omega arith) (λ e. omega arith))
+shared-slice-read-alike-2 : tie.Need-shared-slice-read-alike-2 Inv-loop μ-loop
+shared-slice-read-alike-2 c = omega arith
 
 add-i : tie.Need-add-i Inv-loop μ-loop
 add-i c = omega arith
@@ -45,15 +39,15 @@ loop-less c = omega arith
 
 loop-again : tie.Need-loop-again Inv-loop μ-loop
 loop-again c =
-    let l = c .before .before .before .before in
+    let l = c .before .before .before in
     let s = l .before .before .args in
-    (omega arith, l .loop .inv .1, l .loop .inv .2 ∙ same-more (now (s .a)) (now (s .b)) (l .loop .i) (omega arith) (omega arith) (omega arith))
+    (l .loop .inv .0, l .loop .inv .1 ∙ same-more (now (s .a)) (now (s .b)) (l .loop .i) (l .loop .alike) (omega arith) (omega arith))
 
-returns-3 : tie.Need-returns-3 Inv-loop μ-loop
-returns-3 c =
+returns-2 : tie.Need-returns-2 Inv-loop μ-loop
+returns-2 c =
     let l = c .before in
     let s = l .before .before .args in
-    sym (l .loop .inv .2 ∙ same-end (now (s .a)) (now (s .b)) (l .loop .i) (omega arith) (omega arith))
+    sym (l .loop .inv .1 ∙ same-end (now (s .a)) (now (s .b)) (l .loop .i) (l .loop .alike) (omega arith) (omega arith))
 
 pub equal-spec : {M : Type 1} → statement M
 equal-spec =
@@ -63,10 +57,9 @@ equal-spec =
     μ-loop
     returns
     loop-holds
-    shared-slice-read-if2
-    shared-slice-read-if2-2
-    returns-2
+    shared-slice-read-alike
+    shared-slice-read-alike-2
     add-i
     loop-less
     loop-again
-    returns-3)
+    returns-2)

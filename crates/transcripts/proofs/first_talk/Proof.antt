@@ -1,5 +1,6 @@
 use mathlib.Core.Path.{ap, _∙_}
-use Rattle.rules.specs.declared.Loaded.{Loaded}
+use Prim.Native.Nat.{ℕ}
+use Rattle.rules.specs.declared.Card.{Card}
 use Rattle.rules.specs.Image.{load}
 use Rattle.rules.specs.Sample.{sampleImage}
 use Rattle.rules.proofs.Cases.{sample-loads}
@@ -18,7 +19,7 @@ empty-requires c κs = search needs
 
 returns : tie.Need-returns
 unfolding sampleImage
-returns c = simp (c .empty .ensures, ap (λ (l : Loaded). l .card) (c .before .before .load .ensures ∙ sample-loads))
+returns c = simp (c .empty .ensures, ap (λ (l : ℕ × Card). l .1) (c .before .before .load .ensures ∙ sample-loads))
 
 pub first-talk-spec : {M : Type 1} → statement M
 first-talk-spec = tie.close (tie.spec slice-aggregate-load load-requires empty-requires returns)

@@ -1,0 +1,12 @@
+-- Deliveries, padding and stripping.
+use mathlib.Core.Path.{refl}
+use Rattle.cases.specs.DeliveryCases.{deliveries, DeliveriesShown, paddings, strippings, PaddingShown}
+use Rattle.cases.proofs.Rules.{rules}
+
+pub deliveries-shown : DeliveriesShown
+unfolding rules deliveries
+deliveries-shown = refl
+
+pub padding-shown : PaddingShown
+unfolding rules paddings strippings
+padding-shown = record { padded = refl; stripped = refl }

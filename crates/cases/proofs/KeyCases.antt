@@ -1,0 +1,17 @@
+-- 22 F3, 22 41 and INTERNAL AUTHENTICATE.
+use mathlib.Core.Path.{refl}
+use Rattle.cases.specs.KeyCases.{environments, EnvironmentsShown, choiceWords, ChoiceWordsShown, keys}
+use Rattle.cases.specs.KeyCases.{KeysShown}
+use Rattle.cases.proofs.Rules.{rules}
+
+pub environments-shown : EnvironmentsShown
+unfolding rules environments
+environments-shown = refl
+
+pub choice-words-shown : ChoiceWordsShown
+unfolding rules choiceWords
+choice-words-shown = refl
+
+pub keys-shown : KeysShown
+unfolding rules keys
+keys-shown = refl

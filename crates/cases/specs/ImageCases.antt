@@ -1,0 +1,274 @@
+-- Document 01, "Card image (house)": for each load number each place that gives it, and for each range both ends
+-- accepted.
+use Prim.Native.Nat.{ℕ, _+_}
+use mathlib.Core.Path.{_≡_}
+use mathlib.Core.Bool.{Bool, true, false}
+use mathlib.Core.List.{List, [], _∷_, _++_, map}
+use lib.ListN.{length, take, drop, replicate}
+use Rattle.octets.specs.Octets.{Bytes}
+use Rattle.rules.specs.declared.Card.{Card}
+use Rattle.rules.specs.Image.{load}
+use Rattle.rules.specs.Sample.{sampleImage, imageRecords, references, puk}
+use Rattle.cases.specs.SecondCard.{secondImage, textsIn}
+use Rattle.cases.specs.Turns.{fives, nines, counted}
+
+-- Where the parts of the sample image stand, from zero: the count of the codes 0, PUK's length 1, digits 2 to 9, tries
+-- 10; PIN1's 11, 12 to 15, 16; PIN2's 17, 18 to 22, 23; the count of the keys 24, the keys 25 and 27; the count of the
+-- references 29, the record of 0033h 30 to 50; the count of the records 51, the first record 52, the last 82.
+
+-- The sample image up to a place, and other bytes from there on; with other bytes in a place.
+abbrev pub upTo : ℕ → Bytes → Bytes
+upTo n d = take n sampleImage ++ d
+
+abbrev pub having : ℕ → Bytes → Bytes
+having n d = take n sampleImage ++ (d ++ drop (n + length d) sampleImage)
+
+-- The sections: a code, the keys, the references of the sample card, its records.
+abbrev pub codeIn : Bytes → ℕ → Bytes
+codeIn d tries = length d ∷ (d ++ tries ∷ [])
+
+abbrev pub restOfSample : Bytes
+restOfSample = drop 24 sampleImage
+
+abbrev pub withCodesIn : Bytes → Bytes → Bytes → Bytes
+withCodesIn a b c = 3 ∷ (a ++ (b ++ (c ++ restOfSample)))
+
+-- The sample image with other keys, and references to two of them.
+abbrev pub withKeysIn : Bytes → ℕ → ℕ → Bytes
+withKeysIn keys a b =
+    upTo 24 (keys ++ 21 ∷ (replicate 9 0x00 ++ a ∷ 0x00 ∷ (replicate 8 0x00 ++ b ∷ 0x00 ∷ (16 ∷ imageRecords 16))))
+
+-- Every image that the sample image starts with, the whole one left out: a missing byte, wherever, is 21.
+unfoldable pub ended : List ℕ
+ended = map (λ n. load (take n sampleImage) .0) (counted 84 0)
+
+-- The numbers of images.
+abbrev pub numbers : List Bytes → List ℕ
+numbers images = map (λ image. load image .0) images
+
+-- 22: counts, one less and one more than each section takes, and none.
+unfoldable pub counts : List Bytes
+counts =
+    -- codes
+    (0x02 ∷ [])
+    ∷ (0x04 ∷ [])
+    ∷ (0x00 ∷ [])
+    -- keys
+    ∷ having 24 (0x01 ∷ [])
+    ∷ having 24 (0x05 ∷ [])
+    ∷ upTo 24 (0x00 ∷ [])
+    -- references
+    ∷ having 29 (20 ∷ [])
+    ∷ having 29 (22 ∷ [])
+    -- personal
+    ∷ having 51 (15 ∷ [])
+    ∷ having 51 (17 ∷ [])
+    ∷ upTo 51 (0x00 ∷ [])
+    ∷ []
+
+-- 23: code length, digit or tries over 3, at once as it is read.
+unfoldable pub wrongCodes : List Bytes
+wrongCodes =
+    -- PUK of 7 and of 13
+    having 1 (7 ∷ [])
+    ∷ having 1 (13 ∷ [])
+    ∷ (0x03 ∷ 0x00 ∷ [])
+    -- PIN1 of 3 and of 13
+    ∷ having 11 (3 ∷ [])
+    ∷ having 11 (13 ∷ [])
+    -- PIN2 of 4 and of 13
+    ∷ having 17 (4 ∷ [])
+    ∷ upTo 17 (13 ∷ [])
+    -- a byte that is no digit, the first and the last of each code
+    ∷ upTo 2 (0x2F ∷ [])
+    ∷ having 9 (0x3A ∷ [])
+    ∷ having 12 (0x3A ∷ [])
+    ∷ upTo 15 (0x2F ∷ [])
+    ∷ having 18 (0x2F ∷ [])
+    ∷ having 22 (0x3A ∷ [])
+    -- 4 tries, 255 tries
+    ∷ having 10 (4 ∷ [])
+    ∷ having 16 (4 ∷ [])
+    ∷ having 23 (4 ∷ [])
+    ∷ upTo 10 (255 ∷ [])
+    ∷ []
+
+-- 24: unknown key, wrong order, or a class with no key.
+unfoldable pub wrongKeys : List Bytes
+wrongKeys =
+    -- an unknown key in either place, at its second byte
+    upTo 25 (0x03 ∷ 0x00 ∷ [])
+    ∷ upTo 25 (0x01 ∷ 0x01 ∷ [])
+    ∷ upTo 25 (0x00 ∷ 0x00 ∷ [])
+    ∷ upTo 25 (0x00 ∷ 0x01 ∷ [])
+    ∷ having 25 (0x10 ∷ 0x00 ∷ [])
+    ∷ upTo 27 (0x13 ∷ 0x00 ∷ [])
+    ∷ having 27 (0x11 ∷ 0x01 ∷ [])
+    ∷ having 27 (0xFF ∷ 0xFF ∷ [])
+    -- falling, and twice the same
+    ∷ having 25 (0x11 ∷ 0x00 ∷ 0x01 ∷ 0x00 ∷ [])
+    ∷ having 25 (0x11 ∷ 0x00 ∷ 0x11 ∷ 0x00 ∷ [])
+    ∷ withKeysIn (4 ∷ 0x01 ∷ 0x00 ∷ 0x02 ∷ 0x00 ∷ 0x12 ∷ 0x00 ∷ 0x11 ∷ 0x00 ∷ []) 0x11 0x01
+    ∷ withKeysIn (3 ∷ 0x01 ∷ 0x00 ∷ 0x01 ∷ 0x00 ∷ 0x11 ∷ 0x00 ∷ []) 0x11 0x01
+    -- no authentication key, no signature key, after the last key and before the next count
+    ∷ upTo 24 (2 ∷ 0x01 ∷ 0x00 ∷ 0x02 ∷ 0x00 ∷ [])
+    ∷ upTo 24 (2 ∷ 0x11 ∷ 0x00 ∷ 0x12 ∷ 0x00 ∷ [])
+    ∷ upTo 24 (2 ∷ 0x01 ∷ 0x00 ∷ 0x02 ∷ 0x00 ∷ 0x00 ∷ [])
+    ∷ []
+
+-- 25: reference not a present key of its class, after byte 21 and before the next count.
+unfoldable pub wrongReferences : List Bytes
+wrongReferences =
+    -- authentication: not on the card, of the other class, none
+    having 39 (0x12 ∷ 0x00 ∷ [])
+    ∷ having 39 (0x01 ∷ 0x00 ∷ [])
+    ∷ having 39 (0x00 ∷ 0x00 ∷ [])
+    ∷ having 39 (0x11 ∷ 0x01 ∷ [])
+    -- signature likewise
+    ∷ having 49 (0x02 ∷ 0x00 ∷ [])
+    ∷ having 49 (0x11 ∷ 0x00 ∷ [])
+    ∷ having 49 (0x00 ∷ 0x00 ∷ [])
+    ∷ having 49 (0x01 ∷ 0x01 ∷ [])
+    -- with nothing behind it, and with a wrong count
+    ∷ upTo 30 (replicate 21 0x00)
+    ∷ upTo 30 (replicate 21 0x00 ++ 0x00 ∷ [])
+    ∷ []
+
+-- 26: record length 0 and 65, of the first record and of the last, at once.
+unfoldable pub wrongRecords : List Bytes
+wrongRecords =
+    having 52 (0 ∷ [])
+    ∷ having 52 (65 ∷ [])
+    ∷ upTo 52 (255 ∷ [])
+    ∷ having 82 (0 ∷ [])
+    ∷ upTo 82 (65 ∷ [])
+    ∷ []
+
+-- 27: bytes left over.
+unfoldable pub longer : List Bytes
+longer =
+    (sampleImage ++ 0x00 ∷ [])
+    ∷ (sampleImage ++ sampleImage)
+    ∷ (secondImage ++ 0xFF ∷ [])
+    ∷ []
+
+-- 21, though a later fault would stand there: a code's length before its digits, a key at its second byte, references
+-- after byte 21, a record's bytes.
+unfoldable pub early : List Bytes
+early =
+    upTo 1 (12 ∷ puk)
+    ∷ upTo 25 (0xFF ∷ [])
+    ∷ upTo 27 (0x01 ∷ [])
+    ∷ upTo 30 (replicate 20 0x00)
+    ∷ upTo 52 (64 ∷ replicate 63 0x20)
+    ∷ []
+
+-- The first fault in reading order: of two, the one that stands first.
+unfoldable pub twice : List Bytes
+twice =
+    -- 22 before 23; 23 before 22; 22 before 24; 24 before 25; 25 before 22; 22 before 26; 26 before 27
+    (0x04 ∷ 0x07 ∷ [])
+    ∷ (0x03 ∷ 0x07 ∷ replicate 30 0x00)
+    ∷ upTo 24 (5 ∷ 0x03 ∷ 0x00 ∷ [])
+    ∷ upTo 25 (0x03 ∷ 0x00 ∷ 0x11 ∷ 0x00 ∷ 21 ∷ replicate 21 0x00)
+    ∷ upTo 30 (replicate 21 0x00 ++ 17 ∷ 65 ∷ [])
+    ∷ upTo 51 (17 ∷ 65 ∷ [])
+    ∷ (having 82 (65 ∷ []) ++ 0x00 ∷ [])
+    ∷ []
+
+-- What load says of an image: its number; each code's length and tries; the key marks; each record's length.
+pub record Said : Type 0 where
+  pub number : ℕ
+  pub lengths : List ℕ
+  pub tries : List ℕ
+  pub keys : List Bool
+  pub records : List ℕ
+
+abbrev pub saidOf : ℕ × Card → Said
+saidOf r =
+    record {
+      number = r .0;
+      lengths = map (λ v. v .len) (r .1 .codes);
+      tries = map (λ v. v .tries) (r .1 .codes);
+      keys = r .1 .profile .keys;
+      records = map (λ x. x .len) (r .1 .profile .personal);
+    }
+
+abbrev pub says : List ℕ → List ℕ → List Bool → ℕ → Said
+says lengths tries keys n =
+    record { number = 0; lengths = lengths; tries = tries; keys = keys; records = replicate 16 n }
+
+-- The greatest image: codes of 12, four keys, records of 64.
+abbrev pub greatest : Bytes
+greatest =
+    3 ∷ (codeIn (fives 12) 3 ++ (codeIn (fives 12) 3 ++ codeIn (fives 12) 3))
+    ++ 4 ∷ 0x01 ∷ 0x00 ∷ 0x02 ∷ 0x00 ∷ 0x11 ∷ 0x00 ∷ 0x12 ∷ 0x00 ∷ []
+    ++ 21 ∷ references
+    ++ 16 ∷ textsIn (replicate 16 (fives 64))
+
+unfoldable pub accepted : List Said
+accepted =
+    -- 84 bytes: codes of least length, two keys, records of 1
+    saidOf (load sampleImage)
+    -- 1,115 bytes
+    ∷ saidOf (load greatest)
+    -- one code of greatest length, the others of least; tries 0 to 3 on each; digits 30h and 39h
+    ∷ saidOf (load (withCodesIn (codeIn (nines 12) 0) (codeIn (nines 4) 1) (codeIn (replicate 5 0x30) 2)))
+    ∷ saidOf (load (withCodesIn (codeIn (replicate 8 0x30) 1) (codeIn (nines 12) 2) (codeIn (nines 5) 0)))
+    ∷ saidOf (load (withCodesIn (codeIn (nines 8) 2) (codeIn (replicate 4 0x30) 0) (codeIn (nines 12) 1)))
+    -- the pairs and the triples of keys that have one of each class
+    ∷ saidOf (load (withKeysIn (2 ∷ 0x01 ∷ 0x00 ∷ 0x12 ∷ 0x00 ∷ []) 0x12 0x01))
+    ∷ saidOf (load (withKeysIn (2 ∷ 0x02 ∷ 0x00 ∷ 0x11 ∷ 0x00 ∷ []) 0x11 0x02))
+    ∷ saidOf (load (withKeysIn (2 ∷ 0x02 ∷ 0x00 ∷ 0x12 ∷ 0x00 ∷ []) 0x12 0x02))
+    ∷ saidOf (load (withKeysIn (3 ∷ 0x01 ∷ 0x00 ∷ 0x02 ∷ 0x00 ∷ 0x11 ∷ 0x00 ∷ []) 0x11 0x02))
+    ∷ saidOf (load (withKeysIn (3 ∷ 0x01 ∷ 0x00 ∷ 0x11 ∷ 0x00 ∷ 0x12 ∷ 0x00 ∷ []) 0x12 0x01))
+    ∷ saidOf (load (withKeysIn (3 ∷ 0x02 ∷ 0x00 ∷ 0x11 ∷ 0x00 ∷ 0x12 ∷ 0x00 ∷ []) 0x11 0x02))
+    ∷ []
+
+-- The all-zero state, written out.
+abbrev pub allZero : Card
+allZero =
+    record {
+      codes = replicate 3 (record { digits = replicate 12 0; len = 0; tries = 0; verified = false });
+      profile = record {
+        keys = replicate 4 false;
+        references = replicate 21 0;
+        personal = replicate 16 (record { bytes = replicate 64 0; len = 0 });
+      };
+      session = record {
+        selection = record { directory = 0; file = 0 };
+        environment = record { number = 0; choices = replicate 3 0 };
+        held = record { bytes = replicate 256 0; len = 0 };
+        chain = record { bytes = replicate 258 0; len = 0 };
+        job = record { kind = 0; key = 0; le = 0 };
+      };
+    }
+
+pub record ImagesShown : Type 0 where
+  pub ended : ended ≡ replicate 84 21
+  pub counts : numbers counts ≡ replicate (length counts) 22
+  pub codes : numbers wrongCodes ≡ replicate (length wrongCodes) 23
+  pub keys : numbers wrongKeys ≡ replicate (length wrongKeys) 24
+  pub references : numbers wrongReferences ≡ replicate (length wrongReferences) 25
+  pub records : numbers wrongRecords ≡ replicate (length wrongRecords) 26
+  pub longer : numbers longer ≡ replicate (length longer) 27
+  pub early : numbers early ≡ replicate (length early) 21
+  pub first : numbers twice ≡ 22 ∷ 23 ∷ 22 ∷ 24 ∷ 25 ∷ 22 ∷ 26 ∷ []
+  -- both ends of each range, and the sizes 84 and 1,115
+  pub accepted :
+      accepted
+      ≡ says (8 ∷ 4 ∷ 5 ∷ []) (3 ∷ 3 ∷ 3 ∷ []) (true ∷ false ∷ true ∷ false ∷ []) 1
+      ∷ says (12 ∷ 12 ∷ 12 ∷ []) (3 ∷ 3 ∷ 3 ∷ []) (true ∷ true ∷ true ∷ true ∷ []) 64
+      ∷ says (12 ∷ 4 ∷ 5 ∷ []) (0 ∷ 1 ∷ 2 ∷ []) (true ∷ false ∷ true ∷ false ∷ []) 1
+      ∷ says (8 ∷ 12 ∷ 5 ∷ []) (1 ∷ 2 ∷ 0 ∷ []) (true ∷ false ∷ true ∷ false ∷ []) 1
+      ∷ says (8 ∷ 4 ∷ 12 ∷ []) (2 ∷ 0 ∷ 1 ∷ []) (true ∷ false ∷ true ∷ false ∷ []) 1
+      ∷ says (8 ∷ 4 ∷ 5 ∷ []) (3 ∷ 3 ∷ 3 ∷ []) (true ∷ false ∷ false ∷ true ∷ []) 1
+      ∷ says (8 ∷ 4 ∷ 5 ∷ []) (3 ∷ 3 ∷ 3 ∷ []) (false ∷ true ∷ true ∷ false ∷ []) 1
+      ∷ says (8 ∷ 4 ∷ 5 ∷ []) (3 ∷ 3 ∷ 3 ∷ []) (false ∷ true ∷ false ∷ true ∷ []) 1
+      ∷ says (8 ∷ 4 ∷ 5 ∷ []) (3 ∷ 3 ∷ 3 ∷ []) (true ∷ true ∷ true ∷ false ∷ []) 1
+      ∷ says (8 ∷ 4 ∷ 5 ∷ []) (3 ∷ 3 ∷ 3 ∷ []) (true ∷ false ∷ true ∷ true ∷ []) 1
+      ∷ says (8 ∷ 4 ∷ 5 ∷ []) (3 ∷ 3 ∷ 3 ∷ []) (false ∷ true ∷ true ∷ true ∷ []) 1
+      ∷ []
+  pub sizes : length sampleImage ∷ length greatest ∷ [] ≡ 84 ∷ 1115 ∷ []
+  -- a refused image gives a number beside an all-zero state
+  pub nothing : load (0x02 ∷ []) ≡ (22, allZero)

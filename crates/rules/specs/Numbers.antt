@@ -1,0 +1,79 @@
+-- Document 01, "How tight the promises are": "Where an answer is an enum, a definition sets out this paper's number and values for each of its
+-- cases." One definition for each enum of the code. The promises of the code go through them; the rules speak of the numbers alone.
+use Prim.Native.Nat.{ℕ}
+use mathlib.Core.Path.{_≡_}
+use Rattle.rules.specs.declared.Header.{Header}
+use Rattle.rules.specs.declared.Parsed.{Parsed}
+use Rattle.rules.specs.declared.Parsed.the-variants.{Form, Malformed}
+use Rattle.rules.specs.declared.JobKind.{JobKind}
+use Rattle.rules.specs.declared.JobKind.the-variants.{Authenticate, Sign, Decipher}
+use Rattle.rules.specs.declared.Refusal.{Refusal}
+use Rattle.rules.specs.declared.Refusal.the-variants.{BadState, ShortBuffer, CertificateLength, JobWaiting}
+use Rattle.rules.specs.declared.Refusal.the-variants.{NoJobWaiting}
+use Rattle.rules.specs.declared.Reply.{Reply}
+use Rattle.rules.specs.declared.Reply.the-variants.{Refused, Response, HandedOut, WasReset}
+use Rattle.rules.specs.declared.Fault.{Fault}
+use Rattle.rules.specs.declared.Fault.the-variants.{EndsEarly, WrongCount, BadCode, BadKey, BadReference}
+use Rattle.rules.specs.declared.Fault.the-variants.{RecordLength, LeftOver}
+use Rattle.rules.specs.declared.LoadResult.{LoadResult}
+use Rattle.rules.specs.declared.LoadResult.the-variants.{Accepted, Faulty}
+
+-- The kinds of a job: 1 authenticate, 2 sign, 3 decipher.
+abbrev pub kindNumber : JobKind → ℕ
+kindNumber Authenticate = 1
+kindNumber Sign = 2
+kindNumber Decipher = 3
+
+-- The edge's refusals, 1 to 5.
+abbrev pub refusalNumber : Refusal → ℕ
+refusalNumber BadState = 1
+refusalNumber ShortBuffer = 2
+refusalNumber CertificateLength = 3
+refusalNumber JobWaiting = 4
+refusalNumber NoJobWaiting = 5
+
+-- What a call returns: an edge refusal's number; a response's length; a job's kind and key; or that a reset was done.
+pub data Returned : Type 0 where
+  edge : ℕ → Returned
+  responded : ℕ → Returned
+  handedOut : ℕ → ℕ → Returned
+  wasReset : Returned
+
+abbrev pub returned : Reply → Returned
+returned (Refused r) = edge (refusalNumber r)
+returned (Response n) = responded n
+returned (HandedOut kind key) = handedOut (kindNumber kind) key
+returned WasReset = wasReset
+
+-- The faults of a card image, 21 to 27.
+abbrev pub faultNumber : Fault → ℕ
+faultNumber EndsEarly = 21
+faultNumber WrongCount = 22
+faultNumber BadCode = 23
+faultNumber BadKey = 24
+faultNumber BadReference = 25
+faultNumber RecordLength = 26
+faultNumber LeftOver = 27
+
+-- What load answers: a fault's number, or 0 where the image was accepted.
+abbrev pub loadNumber : LoadResult → ℕ
+loadNumber Accepted = 0
+loadNumber (Faulty f) = faultNumber f
+
+-- What the length form of a command gives: its header and where its data starts, or the status word that refuses it.
+pub data LengthForm : Type 0 where
+  form : Header → ℕ → LengthForm
+  refused : ℕ → LengthForm
+
+abbrev pub lengthForm : Parsed → LengthForm
+lengthForm (Form h start) = form h start
+lengthForm Malformed = refused 0x6700
+
+-- They lose nothing: no two cases of an enum have the same number or value.
+pub record ToldApart : Type 0 where
+  pub kinds : (a b : JobKind) → kindNumber a ≡ kindNumber b → a ≡ b
+  pub refusals : (a b : Refusal) → refusalNumber a ≡ refusalNumber b → a ≡ b
+  pub replies : (a b : Reply) → returned a ≡ returned b → a ≡ b
+  pub faults : (a b : Fault) → faultNumber a ≡ faultNumber b → a ≡ b
+  pub loads : (a b : LoadResult) → loadNumber a ≡ loadNumber b → a ≡ b
+  pub forms : (a b : Parsed) → lengthForm a ≡ lengthForm b → a ≡ b
