@@ -106,12 +106,15 @@ module _ (c : Card) (r w : Bytes) where
       unfolding delivery
       delivery-unasked e = simp (g, le-ltb (length w) 258 room, e)
 
-      delivery-taken : not (jobWaits c) ≡ false → answered w c (inSession (c .codes) (deliver (c .session) r)) ≡ delivery c r w
+      abbrev delivered : Step
+      delivered = inSession (c .codes) (deliver (c .session) r)
+
+      delivery-taken : not (jobWaits c) ≡ false → answered w c delivered ≡ delivery c r w
       unfolding delivery
       delivery-taken e = simp (g, le-ltb (length w) 258 room, e)
 
-      pub delivery-answered : not (jobWaits c) ≡ false → {step : StepOutput}
-          → step ≡ stepOutputFor (inSession (c .codes) (deliver (c .session) r)) → outputWritten w c step ≡ delivery c r w
+      pub delivery-answered : not (jobWaits c) ≡ false → {step : StepOutput} → step ≡ stepOutputFor delivered
+          → outputWritten w c step ≡ delivery c r w
       delivery-answered waits e =
           let kept = deliver-keeps (c .profile .keys) (c .session) (good-session c (not-false _ g)) r in
-          step-written w c (inSession (c .codes) (deliver (c .session) r)) room (response-fits _ (kept .answer)) e ∙ delivery-taken waits
+          step-written w c delivered room (response-fits _ (kept .answer)) e ∙ delivery-taken waits

@@ -1,4 +1,4 @@
-// The calls command, delivery and power reset: the edge, the order of judgement, and the one place where an answer is written.
+// The calls command, delivery and power reset.
 use rules::Card;
 use rules::Code;
 use rules::Outcome;
