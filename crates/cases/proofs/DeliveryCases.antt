@@ -1,4 +1,4 @@
--- Deliveries, padding and stripping.
+-- Deliveries, padding and stripping do as the cases expect.
 use mathlib.Core.Path.{refl}
 use Rattle.cases.specs.DeliveryCases.{deliveries, DeliveriesShown, paddings, strippings, PaddingShown}
 use Rattle.cases.proofs.Rules.{rules}

@@ -1,4 +1,4 @@
--- SELECT, READ RECORD and READ BINARY.
+-- SELECT, READ RECORD and READ BINARY do as the cases expect.
 use mathlib.Core.Path.{refl}
 use Rattle.cases.specs.FileCases.{files, FilesShown}
 use Rattle.cases.proofs.Rules.{rules}

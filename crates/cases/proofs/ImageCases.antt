@@ -1,9 +1,24 @@
--- Images.
+-- Load gives the images of the cases the numbers they expect.
 use mathlib.Core.Path.{refl}
 use Rattle.cases.specs.ImageCases.{ended, counts, wrongCodes, wrongKeys, wrongReferences, wrongRecords, longer}
-use Rattle.cases.specs.ImageCases.{early, twice, accepted, ImagesShown}
+use Rattle.cases.specs.ImageCases.{early, placeRanges, twice, accepted, ImagesShown}
 use Rattle.cases.proofs.Rules.{rules}
 
 pub images-shown : ImagesShown
-unfolding rules ended counts wrongCodes wrongKeys wrongReferences wrongRecords longer early twice accepted
-images-shown = record { ended = refl; counts = refl; codes = refl; keys = refl; references = refl; records = refl; longer = refl; early = refl; first = refl; accepted = refl; sizes = refl; nothing = refl }
+unfolding rules ended counts wrongCodes wrongKeys wrongReferences wrongRecords longer early placeRanges twice accepted
+images-shown =
+    record {
+      ended = refl;
+      counts = refl;
+      codes = refl;
+      keys = refl;
+      references = refl;
+      records = refl;
+      longer = refl;
+      early = refl;
+      places = refl;
+      first = refl;
+      accepted = refl;
+      sizes = refl;
+      nothing = refl;
+    }

@@ -1,4 +1,4 @@
--- SIGN and DECIPHER.
+-- SIGN and DECIPHER do as the cases expect.
 use mathlib.Core.Path.{refl}
 use Rattle.cases.specs.JobCases.{jobs, JobsShown, spoilt, SpoiltDigests}
 use Rattle.cases.proofs.Rules.{rules}

@@ -1,7 +1,7 @@
--- 22 F3, 22 41 and INTERNAL AUTHENTICATE.
+-- 22 F3, 22 41 and INTERNAL AUTHENTICATE do as the cases expect.
 use mathlib.Core.Path.{refl}
-use Rattle.cases.specs.KeyCases.{environments, EnvironmentsShown, choiceWords, ChoiceWordsShown, keys}
-use Rattle.cases.specs.KeyCases.{KeysShown}
+use Rattle.cases.specs.KeyCases.{environments, EnvironmentsShown, choiceWords, ChoiceWordsShown, keyRanges}
+use Rattle.cases.specs.KeyCases.{KeyRanges, keys, KeysShown}
 use Rattle.cases.proofs.Rules.{rules}
 
 pub environments-shown : EnvironmentsShown
@@ -11,6 +11,10 @@ environments-shown = refl
 pub choice-words-shown : ChoiceWordsShown
 unfolding rules choiceWords
 choice-words-shown = refl
+
+pub key-ranges : KeyRanges
+unfolding rules keyRanges
+key-ranges = refl
 
 pub keys-shown : KeysShown
 unfolding rules keys

@@ -1,4 +1,4 @@
--- What drops the held answer and the chain, and data by Le.
+-- What drops the held answer and the chain, and data by Le: as the cases expect.
 use mathlib.Core.Path.{refl}
 use Rattle.cases.specs.PendingCases.{dropping, keeping, PendingShown, giving, GivingShown}
 use Rattle.cases.proofs.Rules.{rules}

@@ -1,4 +1,4 @@
--- Good states and bad ones.
+-- The good states of the cases are good, the bad ones bad.
 use mathlib.Core.Path.{refl}
 use Rattle.cases.specs.StateCases.{bad, BadStates, idle, busy, GoodStates}
 use Rattle.cases.proofs.Rules.{rules}

@@ -1,4 +1,4 @@
--- Steps 1 to 6 hold.
+-- Steps 1 to 6 do as the cases expect.
 use mathlib.Core.Path.{refl}
 use Rattle.cases.specs.StepCases.{steps, StepsShown, parameterRanges, ParameterRanges, lengthRanges}
 use Rattle.cases.specs.StepCases.{LengthRanges}

@@ -1,4 +1,4 @@
--- RESET RETRY.
+-- RESET RETRY does as the cases expect.
 use mathlib.Core.Path.{refl}
 use Rattle.cases.specs.UnblockingCases.{unblocking, UnblockingShown}
 use Rattle.cases.proofs.Rules.{rules}

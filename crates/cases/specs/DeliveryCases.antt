@@ -1,6 +1,5 @@
 -- Document 01, "Padding and delivery".
 use Prim.Native.Nat.{ℕ, _-_}
-use mathlib.Core.Path.{_≡_}
 use mathlib.Core.Bool.{true}
 use mathlib.Core.List.{List, [], _∷_, _++_}
 use lib.ListN.{length, replicate}
@@ -8,8 +7,8 @@ use Rattle.octets.specs.Octets.{Bytes}
 use Rattle.pkcs1.specs.Pkcs1.{pad, strip}
 use Rattle.rules.specs.Sample.{sampleCard, references}
 use Rattle.rules.specs.Cases.{shows, refuses, deliverTo, sw, fresh}
-use Rattle.cases.specs.Turns.{Run, Turn, _⇒_, from, Shown, marks, readRecord, getResponse, sending, selectRoot}
-use Rattle.cases.specs.Turns.{block, sampleMarks, secondOpen, at, inEnvironment, waiting}
+use Rattle.cases.specs.Turns.{Fact, _is_, Holds, Run, Turn, _⇒_, from, Shown, marks, readRecord, getResponse}
+use Rattle.cases.specs.Turns.{sending, selectRoot, block, sampleMarks, secondOpen, at, inEnvironment, waiting}
 
 -- 256 bytes that stripping takes, with a message: 00 02, non-zero bytes, 00, message. With another start; with n
 -- non-zero bytes and then zeros.
@@ -126,45 +125,38 @@ abbrev pub DeliveriesShown : Type 0
 DeliveriesShown = Shown deliveries
 
 -- Padding: its answer, and its buffer afterwards.
-unfoldable pub paddings : List (ℕ × Bytes)
+unfoldable pub paddings : List (Fact (ℕ × Bytes))
 paddings =
     -- the first 256 bytes, and no byte more
-    pad [] (replicate 256 0xEE)
-    ∷ pad (0x41 ∷ 0x42 ∷ []) (replicate 256 0xEE)
-    ∷ pad (replicate 245 0x41) (replicate 258 0xEE)
+    pad [] (replicate 256 0xEE) is (256, 0x00 ∷ 0x01 ∷ (replicate 253 0xFF ++ 0x00 ∷ []))
+    ∷ pad (0x41 ∷ 0x42 ∷ []) (replicate 256 0xEE) is (256, block (0x41 ∷ 0x42 ∷ []))
+    ∷ pad (replicate 245 0x41) (replicate 258 0xEE) is
+    (256, 0x00 ∷ 0x01 ∷ (replicate 8 0xFF ++ 0x00 ∷ (replicate 245 0x41 ++ 0xEE ∷ 0xEE ∷ [])))
     -- n > 245, or the buffer under 256: 0 with nothing written
-    ∷ pad (replicate 246 0x41) (replicate 258 0xEE)
-    ∷ pad (0x41 ∷ []) (replicate 255 0xEE)
-    ∷ pad [] []
+    ∷ pad (replicate 246 0x41) (replicate 258 0xEE) is (0, replicate 258 0xEE)
+    ∷ pad (0x41 ∷ []) (replicate 255 0xEE) is (0, replicate 255 0xEE)
+    ∷ pad [] [] is (0, [])
     ∷ []
 
 -- Stripping: where the message starts.
-unfoldable pub strippings : List ℕ
+unfoldable pub strippings : List (Fact ℕ)
 strippings =
     -- 8 non-zero bytes: 11; 9: 12; 253: 256
-    strip (nonZero 8)
-    ∷ strip (nonZero 9)
-    ∷ strip (nonZero 253)
+    strip (nonZero 8) is 11
+    ∷ strip (nonZero 9) is 12
+    ∷ strip (nonZero 253) is 256
     -- else 0: 7 of them, none, and no 00 behind 254; another start; 255 and 257 bytes, and none
-    ∷ strip (nonZero 7)
-    ∷ strip (nonZero 0)
-    ∷ strip (nonZero 254)
-    ∷ strip (starting 0x01 0x02 (0x41 ∷ []))
-    ∷ strip (starting 0x00 0x01 (0x41 ∷ []))
-    ∷ strip (starting 0x02 0x00 (0x41 ∷ []))
-    ∷ strip (0x00 ∷ 0x02 ∷ (replicate 8 0x55 ++ replicate 245 0x00))
-    ∷ strip (nonZero 8 ++ 0x00 ∷ [])
-    ∷ strip []
+    ∷ strip (nonZero 7) is 0
+    ∷ strip (nonZero 0) is 0
+    ∷ strip (nonZero 254) is 0
+    ∷ strip (starting 0x01 0x02 (0x41 ∷ [])) is 0
+    ∷ strip (starting 0x00 0x01 (0x41 ∷ [])) is 0
+    ∷ strip (starting 0x02 0x00 (0x41 ∷ [])) is 0
+    ∷ strip (0x00 ∷ 0x02 ∷ (replicate 8 0x55 ++ replicate 245 0x00)) is 0
+    ∷ strip (nonZero 8 ++ 0x00 ∷ []) is 0
+    ∷ strip [] is 0
     ∷ []
 
 pub record PaddingShown : Type 0 where
-  pub padded :
-      paddings
-      ≡ (256, 0x00 ∷ 0x01 ∷ (replicate 253 0xFF ++ 0x00 ∷ []))
-      ∷ (256, block (0x41 ∷ 0x42 ∷ []))
-      ∷ (256, 0x00 ∷ 0x01 ∷ (replicate 8 0xFF ++ 0x00 ∷ (replicate 245 0x41 ++ 0xEE ∷ 0xEE ∷ [])))
-      ∷ (0, replicate 258 0xEE)
-      ∷ (0, replicate 255 0xEE)
-      ∷ (0, [])
-      ∷ []
-  pub stripped : strippings ≡ 11 ∷ 12 ∷ 256 ∷ replicate 9 0
+  pub padded : Holds paddings
+  pub stripped : Holds strippings

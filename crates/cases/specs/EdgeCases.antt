@@ -6,17 +6,18 @@ use mathlib.Core.List.{List, [], _∷_, _++_, map}
 use lib.ListN.{replicate}
 use Rattle.octets.specs.Octets.{Bytes}
 use Rattle.rules.specs.declared.Card.{Card}
+use Rattle.rules.specs.declared.Session.{Session}
 use Rattle.rules.specs.Numbers.{Returned, edge, responded, handedOut, wasReset}
 use Rattle.rules.specs.Codes.{PUK, PIN1}
 use Rattle.rules.specs.Session.{newSession, withEnvironment, withHeld}
-use Rattle.rules.specs.Image.{zeroCard}
+use Rattle.rules.specs.Image.{zeroCard, load}
 use Rattle.rules.specs.Edge.{powerReset}
 use Rattle.rules.specs.Counting.{Call, Command, Delivery, PowerReset, step, next}
-use Rattle.rules.specs.Sample.{sampleCard, puk, pin1}
+use Rattle.rules.specs.Sample.{sampleCard, sampleImage, puk, pin1}
 use Rattle.rules.specs.Cases.{shows, refuses, isReset, buffer, send, deliverTo, verifyOf, decipherPart, sw, fresh}
-use Rattle.cases.specs.Turns.{Run, _⇒_, from, Shown, tries, getResponse, sending, selectRoot, block}
-use Rattle.cases.specs.Turns.{withSession, sampleTries, sampleMarks, secondTries, secondOpen, at, chained}
-use Rattle.cases.specs.Turns.{waiting}
+use Rattle.cases.specs.Turns.{Fact, _is_, Holds, Run, _⇒_, from, Shown, tries, getResponse, sending, selectRoot}
+use Rattle.cases.specs.Turns.{block, withSession, sampleTries, sampleMarks, secondTries, secondOpen, at}
+use Rattle.cases.specs.Turns.{chained, waiting}
 
 -- A certificate of n bytes; an empty command with two certificates and a buffer of some lengths.
 abbrev pub certificate : ℕ → Bytes
@@ -131,49 +132,54 @@ pub record Written : Type 0 where
   pub returned : Returned
   pub buffer : Bytes
 
+abbrev pub wrote : Returned → Bytes → Written
+wrote r b = record { returned = r; buffer = b }
+
 abbrev pub writtenBy : Card → Call → Written
-writtenBy c x = record { returned = step c x .returned; buffer = step c x .buffer }
+writtenBy c x = wrote (step c x .returned) (step c x .buffer)
 
 -- READ RECORD 1 with a buffer of 260 bytes.
 abbrev pub readFirst : Call
 readFirst = Command (0x00 ∷ 0xB2 ∷ 0x01 ∷ 0x04 ∷ 0x00 ∷ []) (0x30 ∷ []) (0x30 ∷ []) (replicate 260 0xEE)
 
-unfoldable pub writing : List Written
+unfoldable pub writing : List (Fact Written)
 writing =
     -- a response writes its data, then two status bytes, and no byte more, and returns its length
-    writtenBy sampleCard selectRoot
-    ∷ writtenBy (at 0xEEEE 0x5044 sampleCard) readFirst
-    ∷ writtenBy (waiting 1 0x1100 256 sampleCard) (Delivery (replicate 256 0x5A) (replicate 260 0xEE))
-    ∷ writtenBy (waiting 1 0x1100 0 sampleCard) (deliverTo (replicate 256 0x5A))
+    writtenBy sampleCard selectRoot is wrote (responded 2) (0x90 ∷ 0x00 ∷ replicate 256 0xEE)
+    ∷ writtenBy (at 0xEEEE 0x5044 sampleCard) readFirst is
+    wrote (responded 3) (0x20 ∷ 0x90 ∷ 0x00 ∷ replicate 257 0xEE)
+    ∷ writtenBy (waiting 1 0x1100 256 sampleCard) (Delivery (replicate 256 0x5A) (replicate 260 0xEE)) is
+    wrote (responded 258) (replicate 256 0x5A ++ 0x90 ∷ 0x00 ∷ 0xEE ∷ 0xEE ∷ [])
+    ∷ writtenBy (waiting 1 0x1100 0 sampleCard) (deliverTo (replicate 256 0x5A)) is
+    wrote (responded 2) (0x61 ∷ 0x00 ∷ replicate 256 0xEE)
     -- a job writes 256 bytes and returns kind and key
-    ∷ writtenBy (sampleMarks false true false) (sending 0x88 0x00 0x00 (0x41 ∷ []))
+    ∷ writtenBy (sampleMarks false true false) (sending 0x88 0x00 0x00 (0x41 ∷ [])) is
+    wrote (handedOut 1 0x1100) (block (0x41 ∷ []) ++ 0xEE ∷ 0xEE ∷ [])
     -- a refusal writes nothing
-    ∷ writtenBy sampleCard (Command [] (0x30 ∷ []) (0x30 ∷ []) (0xEE ∷ []))
-    ∷ writtenBy sampleCard (Command [] [] (0x30 ∷ []) buffer)
-    ∷ writtenBy (waiting 1 0x1100 256 sampleCard) (send [])
-    ∷ writtenBy sampleCard (deliverTo [])
-    ∷ writtenBy zeroCard (send [])
+    ∷ writtenBy sampleCard (Command [] (0x30 ∷ []) (0x30 ∷ []) (0xEE ∷ [])) is wrote (edge 2) (0xEE ∷ [])
+    ∷ writtenBy sampleCard (Command [] [] (0x30 ∷ []) buffer) is wrote (edge 3) (replicate 258 0xEE)
+    ∷ writtenBy (waiting 1 0x1100 256 sampleCard) (send []) is wrote (edge 4) (replicate 258 0xEE)
+    ∷ writtenBy sampleCard (deliverTo []) is wrote (edge 5) (replicate 258 0xEE)
+    ∷ writtenBy zeroCard (send []) is wrote (edge 1) (replicate 258 0xEE)
     ∷ []
 
-abbrev pub wrote : Returned → Bytes → Written
-wrote r b = record { returned = r; buffer = b }
+-- The session that load and a power reset give, written out: root, no file, environment 1, choices at "active", the
+-- rest empty.
+abbrev pub freshSession : Session
+freshSession =
+    record {
+      selection = record { directory = 0x3F00; file = 0 };
+      environment = record { number = 1; choices = 0 ∷ 0 ∷ 0 ∷ [] };
+      held = record { bytes = replicate 256 0x00; len = 0 };
+      chain = record { bytes = replicate 258 0x00; len = 0 };
+      job = record { kind = 0; key = 0; le = 0 };
+    }
 
 pub record WrittenShown : Type 0 where
-  pub written :
-      writing
-      ≡ wrote (responded 2) (0x90 ∷ 0x00 ∷ replicate 256 0xEE)
-      ∷ wrote (responded 3) (0x20 ∷ 0x90 ∷ 0x00 ∷ replicate 257 0xEE)
-      ∷ wrote (responded 258) (replicate 256 0x5A ++ 0x90 ∷ 0x00 ∷ 0xEE ∷ 0xEE ∷ [])
-      ∷ wrote (responded 2) (0x61 ∷ 0x00 ∷ replicate 256 0xEE)
-      ∷ wrote (handedOut 1 0x1100) (block (0x41 ∷ []) ++ 0xEE ∷ 0xEE ∷ [])
-      ∷ wrote (edge 2) (0xEE ∷ [])
-      ∷ wrote (edge 3) (replicate 258 0xEE)
-      ∷ wrote (edge 4) (replicate 258 0xEE)
-      ∷ wrote (edge 5) (replicate 258 0xEE)
-      ∷ wrote (edge 1) (replicate 258 0xEE)
-      ∷ []
-  -- a reset gives root, no file, environment 1, choices at "active", marks off, the rest empty, and keeps code values
-  -- and tries
+  pub written : Holds writing
+  -- load and a reset give this session; a reset puts marks off, and keeps code values and tries
+  pub loads : load sampleImage .1 .session ≡ freshSession
+  pub resets : powerReset inUse .1 .session ≡ freshSession
   pub reset : powerReset inUse ≡ (wasReset, secondFresh)
   pub resetWithJob : powerReset (waiting 2 0x0100 256 sampleCard) ≡ (wasReset, sampleCard)
   -- a refusal leaves the state as it was

@@ -2,15 +2,16 @@
 -- accepted.
 use Prim.Native.Nat.{ℕ, _+_}
 use mathlib.Core.Path.{_≡_}
-use mathlib.Core.Bool.{Bool, true, false}
+use mathlib.Core.Bool.{Bool, true, false, not}
 use mathlib.Core.List.{List, [], _∷_, _++_, map}
 use lib.ListN.{length, take, drop, replicate}
+use lib.Dec.{eqb}
 use Rattle.octets.specs.Octets.{Bytes}
 use Rattle.rules.specs.declared.Card.{Card}
 use Rattle.rules.specs.Image.{load}
 use Rattle.rules.specs.Sample.{sampleImage, imageRecords, references, puk}
 use Rattle.cases.specs.SecondCard.{secondImage, textsIn}
-use Rattle.cases.specs.Turns.{fives, nines, counted}
+use Rattle.cases.specs.Turns.{fives, nines, counted, sieved, bytes, Fact, _is_, Holds}
 
 -- Where the parts of the sample image stand, from zero: the count of the codes 0, PUK's length 1, digits 2 to 9, tries
 -- 10; PIN1's 11, 12 to 15, 16; PIN2's 17, 18 to 22, 23; the count of the keys 24, the keys 25 and 27; the count of the
@@ -38,32 +39,32 @@ abbrev pub withKeysIn : Bytes → ℕ → ℕ → Bytes
 withKeysIn keys a b =
     upTo 24 (keys ++ 21 ∷ (replicate 9 0x00 ++ a ∷ 0x00 ∷ (replicate 8 0x00 ++ b ∷ 0x00 ∷ (16 ∷ imageRecords 16))))
 
+-- The number that load gives an image; the numbers of images.
+abbrev pub numberOf : Bytes → ℕ
+numberOf image = load image .0
+
+abbrev pub numbers : List Bytes → List ℕ
+numbers images = map numberOf images
+
 -- Every image that the sample image starts with, the whole one left out: a missing byte, wherever, is 21.
 unfoldable pub ended : List ℕ
-ended = map (λ n. load (take n sampleImage) .0) (counted 84 0)
+ended = map (λ n. numberOf (take n sampleImage)) (counted 84 0)
 
--- The numbers of images.
-abbrev pub numbers : List Bytes → List ℕ
-numbers images = map (λ image. load image .0) images
-
--- 22: counts, one less and one more than each section takes, and none.
+-- 22: counts, one less and one more than each section takes.
 unfoldable pub counts : List Bytes
 counts =
     -- codes
     (0x02 ∷ [])
     ∷ (0x04 ∷ [])
-    ∷ (0x00 ∷ [])
     -- keys
     ∷ having 24 (0x01 ∷ [])
     ∷ having 24 (0x05 ∷ [])
-    ∷ upTo 24 (0x00 ∷ [])
     -- references
     ∷ having 29 (20 ∷ [])
     ∷ having 29 (22 ∷ [])
     -- personal
     ∷ having 51 (15 ∷ [])
     ∷ having 51 (17 ∷ [])
-    ∷ upTo 51 (0x00 ∷ [])
     ∷ []
 
 -- 23: code length, digit or tries over 3, at once as it is read.
@@ -72,7 +73,6 @@ wrongCodes =
     -- PUK of 7 and of 13
     having 1 (7 ∷ [])
     ∷ having 1 (13 ∷ [])
-    ∷ (0x03 ∷ 0x00 ∷ [])
     -- PIN1 of 3 and of 13
     ∷ having 11 (3 ∷ [])
     ∷ having 11 (13 ∷ [])
@@ -86,11 +86,10 @@ wrongCodes =
     ∷ upTo 15 (0x2F ∷ [])
     ∷ having 18 (0x2F ∷ [])
     ∷ having 22 (0x3A ∷ [])
-    -- 4 tries, 255 tries
+    -- 4 tries
     ∷ having 10 (4 ∷ [])
     ∷ having 16 (4 ∷ [])
     ∷ having 23 (4 ∷ [])
-    ∷ upTo 10 (255 ∷ [])
     ∷ []
 
 -- 24: unknown key, wrong order, or a class with no key.
@@ -98,9 +97,6 @@ unfoldable pub wrongKeys : List Bytes
 wrongKeys =
     -- an unknown key in either place, at its second byte
     upTo 25 (0x03 ∷ 0x00 ∷ [])
-    ∷ upTo 25 (0x01 ∷ 0x01 ∷ [])
-    ∷ upTo 25 (0x00 ∷ 0x00 ∷ [])
-    ∷ upTo 25 (0x00 ∷ 0x01 ∷ [])
     ∷ having 25 (0x10 ∷ 0x00 ∷ [])
     ∷ upTo 27 (0x13 ∷ 0x00 ∷ [])
     ∷ having 27 (0x11 ∷ 0x01 ∷ [])
@@ -139,7 +135,6 @@ unfoldable pub wrongRecords : List Bytes
 wrongRecords =
     having 52 (0 ∷ [])
     ∷ having 52 (65 ∷ [])
-    ∷ upTo 52 (255 ∷ [])
     ∷ having 82 (0 ∷ [])
     ∷ upTo 82 (65 ∷ [])
     ∷ []
@@ -163,29 +158,61 @@ early =
     ∷ upTo 52 (64 ∷ replicate 63 0x20)
     ∷ []
 
--- The first fault in reading order: of two, the one that stands first.
-unfoldable pub twice : List Bytes
-twice =
-    -- 22 before 23; 23 before 22; 22 before 24; 24 before 25; 25 before 22; 22 before 26; 26 before 27
-    (0x04 ∷ 0x07 ∷ [])
-    ∷ (0x03 ∷ 0x07 ∷ replicate 30 0x00)
-    ∷ upTo 24 (5 ∷ 0x03 ∷ 0x00 ∷ [])
-    ∷ upTo 25 (0x03 ∷ 0x00 ∷ 0x11 ∷ 0x00 ∷ 21 ∷ replicate 21 0x00)
-    ∷ upTo 30 (replicate 21 0x00 ++ 17 ∷ 65 ∷ [])
-    ∷ upTo 51 (17 ∷ 65 ∷ [])
-    ∷ (having 82 (65 ∷ []) ++ 0x00 ∷ [])
+-- The bytes that are not answered by a number where they end an image: what a place takes.
+abbrev pub taken : ℕ → (ℕ → Bytes) → List ℕ
+taken number image = sieved (λ x. not (eqb (numberOf (image x)) number)) bytes
+
+unfoldable pub placeRanges : List (Fact (List ℕ))
+placeRanges =
+    -- the count of the codes, 3; PUK of 8 to 12, PIN1 of 4 to 12, PIN2 of 5 to 12
+    taken 22 (λ x. x ∷ []) is (3 ∷ [])
+    ∷ taken 23 (λ x. upTo 1 (x ∷ [])) is counted 5 8
+    ∷ taken 23 (λ x. upTo 11 (x ∷ [])) is counted 9 4
+    ∷ taken 23 (λ x. upTo 17 (x ∷ [])) is counted 8 5
+    -- digits 30h to 39h; 0 to 3 tries
+    ∷ taken 23 (λ x. upTo 2 (x ∷ [])) is counted 10 0x30
+    ∷ taken 23 (λ x. upTo 15 (x ∷ [])) is counted 10 0x30
+    ∷ taken 23 (λ x. upTo 10 (x ∷ [])) is counted 4 0
+    ∷ taken 23 (λ x. upTo 16 (x ∷ [])) is counted 4 0
+    ∷ taken 23 (λ x. upTo 23 (x ∷ [])) is counted 4 0
+    -- the count of the keys, 2 to 4; the keys, at the second byte
+    ∷ taken 22 (λ x. upTo 24 (x ∷ [])) is counted 3 2
+    ∷ taken 24 (λ x. upTo 25 (x ∷ [])) is bytes
+    ∷ taken 24 (λ x. upTo 25 (x ∷ 0x00 ∷ [])) is (0x01 ∷ 0x02 ∷ 0x11 ∷ 0x12 ∷ [])
+    ∷ taken 24 (λ x. upTo 25 (0x01 ∷ x ∷ [])) is (0x00 ∷ [])
+    ∷ taken 24 (λ x. upTo 25 (0x02 ∷ x ∷ [])) is (0x00 ∷ [])
+    ∷ taken 24 (λ x. upTo 25 (0x11 ∷ x ∷ [])) is (0x00 ∷ [])
+    ∷ taken 24 (λ x. upTo 25 (0x12 ∷ x ∷ [])) is (0x00 ∷ [])
+    -- the count of the references, 21; of the records, 16; a record of 1 to 64
+    ∷ taken 22 (λ x. upTo 29 (x ∷ [])) is (21 ∷ [])
+    ∷ taken 22 (λ x. upTo 51 (x ∷ [])) is (16 ∷ [])
+    ∷ taken 26 (λ x. upTo 52 (x ∷ [])) is counted 64 1
+    ∷ taken 26 (λ x. upTo 82 (x ∷ [])) is counted 64 1
     ∷ []
 
--- What load says of an image: its number; each code's length and tries; the key marks; each record's length.
-pub record Said : Type 0 where
+-- The first fault in reading order: of two, the one that stands first.
+unfoldable pub twice : List (Fact ℕ)
+twice =
+    -- 22 before 23; 23 before 22; 22 before 24; 24 before 25; 25 before 22; 22 before 26; 26 before 27
+    numberOf (0x04 ∷ 0x07 ∷ []) is 22
+    ∷ numberOf (0x03 ∷ 0x07 ∷ replicate 30 0x00) is 23
+    ∷ numberOf (upTo 24 (5 ∷ 0x03 ∷ 0x00 ∷ [])) is 22
+    ∷ numberOf (upTo 25 (0x03 ∷ 0x00 ∷ 0x11 ∷ 0x00 ∷ 21 ∷ replicate 21 0x00)) is 24
+    ∷ numberOf (upTo 30 (replicate 21 0x00 ++ 17 ∷ 65 ∷ [])) is 25
+    ∷ numberOf (upTo 51 (17 ∷ 65 ∷ [])) is 22
+    ∷ numberOf (having 82 (65 ∷ []) ++ 0x00 ∷ []) is 26
+    ∷ []
+
+-- What load gives, in short: its number; each code's length and tries; the key marks; each record's length.
+pub record Summary : Type 0 where
   pub number : ℕ
   pub lengths : List ℕ
   pub tries : List ℕ
   pub keys : List Bool
   pub records : List ℕ
 
-abbrev pub saidOf : ℕ × Card → Said
-saidOf r =
+abbrev pub summary : ℕ × Card → Summary
+summary r =
     record {
       number = r .0;
       lengths = map (λ v. v .len) (r .1 .codes);
@@ -194,7 +221,7 @@ saidOf r =
       records = map (λ x. x .len) (r .1 .profile .personal);
     }
 
-abbrev pub says : List ℕ → List ℕ → List Bool → ℕ → Said
+abbrev pub says : List ℕ → List ℕ → List Bool → ℕ → Summary
 says lengths tries keys n =
     record { number = 0; lengths = lengths; tries = tries; keys = keys; records = replicate 16 n }
 
@@ -206,23 +233,32 @@ greatest =
     ++ 21 ∷ references
     ++ 16 ∷ textsIn (replicate 16 (fives 64))
 
-unfoldable pub accepted : List Said
+unfoldable pub accepted : List (Fact Summary)
 accepted =
     -- 84 bytes: codes of least length, two keys, records of 1
-    saidOf (load sampleImage)
+    summary (load sampleImage) is says (8 ∷ 4 ∷ 5 ∷ []) (3 ∷ 3 ∷ 3 ∷ []) (true ∷ false ∷ true ∷ false ∷ []) 1
     -- 1,115 bytes
-    ∷ saidOf (load greatest)
+    ∷ summary (load greatest) is says (12 ∷ 12 ∷ 12 ∷ []) (3 ∷ 3 ∷ 3 ∷ []) (true ∷ true ∷ true ∷ true ∷ []) 64
     -- one code of greatest length, the others of least; tries 0 to 3 on each; digits 30h and 39h
-    ∷ saidOf (load (withCodesIn (codeIn (nines 12) 0) (codeIn (nines 4) 1) (codeIn (replicate 5 0x30) 2)))
-    ∷ saidOf (load (withCodesIn (codeIn (replicate 8 0x30) 1) (codeIn (nines 12) 2) (codeIn (nines 5) 0)))
-    ∷ saidOf (load (withCodesIn (codeIn (nines 8) 2) (codeIn (replicate 4 0x30) 0) (codeIn (nines 12) 1)))
+    ∷ summary (load (withCodesIn (codeIn (nines 12) 0) (codeIn (nines 4) 1) (codeIn (replicate 5 0x30) 2))) is
+    says (12 ∷ 4 ∷ 5 ∷ []) (0 ∷ 1 ∷ 2 ∷ []) (true ∷ false ∷ true ∷ false ∷ []) 1
+    ∷ summary (load (withCodesIn (codeIn (replicate 8 0x30) 1) (codeIn (nines 12) 2) (codeIn (nines 5) 0))) is
+    says (8 ∷ 12 ∷ 5 ∷ []) (1 ∷ 2 ∷ 0 ∷ []) (true ∷ false ∷ true ∷ false ∷ []) 1
+    ∷ summary (load (withCodesIn (codeIn (nines 8) 2) (codeIn (replicate 4 0x30) 0) (codeIn (nines 12) 1))) is
+    says (8 ∷ 4 ∷ 12 ∷ []) (2 ∷ 0 ∷ 1 ∷ []) (true ∷ false ∷ true ∷ false ∷ []) 1
     -- the pairs and the triples of keys that have one of each class
-    ∷ saidOf (load (withKeysIn (2 ∷ 0x01 ∷ 0x00 ∷ 0x12 ∷ 0x00 ∷ []) 0x12 0x01))
-    ∷ saidOf (load (withKeysIn (2 ∷ 0x02 ∷ 0x00 ∷ 0x11 ∷ 0x00 ∷ []) 0x11 0x02))
-    ∷ saidOf (load (withKeysIn (2 ∷ 0x02 ∷ 0x00 ∷ 0x12 ∷ 0x00 ∷ []) 0x12 0x02))
-    ∷ saidOf (load (withKeysIn (3 ∷ 0x01 ∷ 0x00 ∷ 0x02 ∷ 0x00 ∷ 0x11 ∷ 0x00 ∷ []) 0x11 0x02))
-    ∷ saidOf (load (withKeysIn (3 ∷ 0x01 ∷ 0x00 ∷ 0x11 ∷ 0x00 ∷ 0x12 ∷ 0x00 ∷ []) 0x12 0x01))
-    ∷ saidOf (load (withKeysIn (3 ∷ 0x02 ∷ 0x00 ∷ 0x11 ∷ 0x00 ∷ 0x12 ∷ 0x00 ∷ []) 0x11 0x02))
+    ∷ summary (load (withKeysIn (2 ∷ 0x01 ∷ 0x00 ∷ 0x12 ∷ 0x00 ∷ []) 0x12 0x01)) is
+    says (8 ∷ 4 ∷ 5 ∷ []) (3 ∷ 3 ∷ 3 ∷ []) (true ∷ false ∷ false ∷ true ∷ []) 1
+    ∷ summary (load (withKeysIn (2 ∷ 0x02 ∷ 0x00 ∷ 0x11 ∷ 0x00 ∷ []) 0x11 0x02)) is
+    says (8 ∷ 4 ∷ 5 ∷ []) (3 ∷ 3 ∷ 3 ∷ []) (false ∷ true ∷ true ∷ false ∷ []) 1
+    ∷ summary (load (withKeysIn (2 ∷ 0x02 ∷ 0x00 ∷ 0x12 ∷ 0x00 ∷ []) 0x12 0x02)) is
+    says (8 ∷ 4 ∷ 5 ∷ []) (3 ∷ 3 ∷ 3 ∷ []) (false ∷ true ∷ false ∷ true ∷ []) 1
+    ∷ summary (load (withKeysIn (3 ∷ 0x01 ∷ 0x00 ∷ 0x02 ∷ 0x00 ∷ 0x11 ∷ 0x00 ∷ []) 0x11 0x02)) is
+    says (8 ∷ 4 ∷ 5 ∷ []) (3 ∷ 3 ∷ 3 ∷ []) (true ∷ true ∷ true ∷ false ∷ []) 1
+    ∷ summary (load (withKeysIn (3 ∷ 0x01 ∷ 0x00 ∷ 0x11 ∷ 0x00 ∷ 0x12 ∷ 0x00 ∷ []) 0x12 0x01)) is
+    says (8 ∷ 4 ∷ 5 ∷ []) (3 ∷ 3 ∷ 3 ∷ []) (true ∷ false ∷ true ∷ true ∷ []) 1
+    ∷ summary (load (withKeysIn (3 ∷ 0x02 ∷ 0x00 ∷ 0x11 ∷ 0x00 ∷ 0x12 ∷ 0x00 ∷ []) 0x11 0x02)) is
+    says (8 ∷ 4 ∷ 5 ∷ []) (3 ∷ 3 ∷ 3 ∷ []) (false ∷ true ∷ true ∷ true ∷ []) 1
     ∷ []
 
 -- The all-zero state, written out.
@@ -253,22 +289,10 @@ pub record ImagesShown : Type 0 where
   pub records : numbers wrongRecords ≡ replicate (length wrongRecords) 26
   pub longer : numbers longer ≡ replicate (length longer) 27
   pub early : numbers early ≡ replicate (length early) 21
-  pub first : numbers twice ≡ 22 ∷ 23 ∷ 22 ∷ 24 ∷ 25 ∷ 22 ∷ 26 ∷ []
+  pub places : Holds placeRanges
+  pub first : Holds twice
   -- both ends of each range, and the sizes 84 and 1,115
-  pub accepted :
-      accepted
-      ≡ says (8 ∷ 4 ∷ 5 ∷ []) (3 ∷ 3 ∷ 3 ∷ []) (true ∷ false ∷ true ∷ false ∷ []) 1
-      ∷ says (12 ∷ 12 ∷ 12 ∷ []) (3 ∷ 3 ∷ 3 ∷ []) (true ∷ true ∷ true ∷ true ∷ []) 64
-      ∷ says (12 ∷ 4 ∷ 5 ∷ []) (0 ∷ 1 ∷ 2 ∷ []) (true ∷ false ∷ true ∷ false ∷ []) 1
-      ∷ says (8 ∷ 12 ∷ 5 ∷ []) (1 ∷ 2 ∷ 0 ∷ []) (true ∷ false ∷ true ∷ false ∷ []) 1
-      ∷ says (8 ∷ 4 ∷ 12 ∷ []) (2 ∷ 0 ∷ 1 ∷ []) (true ∷ false ∷ true ∷ false ∷ []) 1
-      ∷ says (8 ∷ 4 ∷ 5 ∷ []) (3 ∷ 3 ∷ 3 ∷ []) (true ∷ false ∷ false ∷ true ∷ []) 1
-      ∷ says (8 ∷ 4 ∷ 5 ∷ []) (3 ∷ 3 ∷ 3 ∷ []) (false ∷ true ∷ true ∷ false ∷ []) 1
-      ∷ says (8 ∷ 4 ∷ 5 ∷ []) (3 ∷ 3 ∷ 3 ∷ []) (false ∷ true ∷ false ∷ true ∷ []) 1
-      ∷ says (8 ∷ 4 ∷ 5 ∷ []) (3 ∷ 3 ∷ 3 ∷ []) (true ∷ true ∷ true ∷ false ∷ []) 1
-      ∷ says (8 ∷ 4 ∷ 5 ∷ []) (3 ∷ 3 ∷ 3 ∷ []) (true ∷ false ∷ true ∷ true ∷ []) 1
-      ∷ says (8 ∷ 4 ∷ 5 ∷ []) (3 ∷ 3 ∷ 3 ∷ []) (false ∷ true ∷ true ∷ true ∷ []) 1
-      ∷ []
+  pub accepted : Holds accepted
   pub sizes : length sampleImage ∷ length greatest ∷ [] ≡ 84 ∷ 1115 ∷ []
   -- a refused image gives a number beside an all-zero state
   pub nothing : load (0x02 ∷ []) ≡ (22, allZero)

@@ -1,10 +1,10 @@
 -- Document 01, "Order of judgement for a command", step 7: 22 F3, 22 41 and INTERNAL AUTHENTICATE, and the key that
 -- each job takes.
 use Prim.Native.Nat.{ℕ}
-use mathlib.Core.Path.{_≡_}
-use mathlib.Core.Bool.{true, false}
+use mathlib.Core.Bool.{true, false, not}
 use mathlib.Core.List.{List, [], _∷_, _++_, map}
 use lib.ListN.{length, replicate}
+use lib.Dec.{eqb}
 use Rattle.octets.specs.Octets.{Bytes}
 use Rattle.rules.specs.declared.Card.{Card}
 use Rattle.rules.specs.declared.Environment.{Environment}
@@ -13,10 +13,11 @@ use Rattle.rules.specs.Counting.{Call, next}
 use Rattle.rules.specs.Sample.{sampleCard}
 use Rattle.rules.specs.Cases.{shows, hands, deliverTo, sha1Digest, signSha1, chooseKeyOf, decipherPart, sw, fresh}
 use Rattle.cases.specs.SecondCard.{secondCard}
-use Rattle.cases.specs.Turns.{Run, _⇒_, from, Shown, tries, marks, sending, sendingWithLe, environment, block}
-use Rattle.cases.specs.Turns.{withSession, sampleMarks, secondOpen, inEnvironment, chained, wordOn}
+use Rattle.cases.specs.Turns.{bytes, sieved, Fact, _is_, Holds, Run, _⇒_, from, Shown, tries, marks, sending}
+use Rattle.cases.specs.Turns.{sendingWithLe, environment, block, withSession, sampleMarks, secondOpen}
+use Rattle.cases.specs.Turns.{inEnvironment, chained, wordOn}
 
--- The second card, all codes verified, in environment n with three key choices; 0 is "active". Its active keys are
+-- The second card, all codes verified, in environment n with three key choices; 0 is "active". Its active keys is
 -- 1200h and 0200h.
 abbrev pub choosing : ℕ → ℕ → ℕ → ℕ → Card
 choosing n a b c = withSession secondOpen (withEnvironment (secondOpen .session) n (a ∷ b ∷ c ∷ []))
@@ -25,9 +26,12 @@ choosing n a b c = withSession secondOpen (withEnvironment (secondOpen .session)
 abbrev pub authenticate : Call
 authenticate = sending 0x88 0x00 0x00 (0x41 ∷ [])
 
--- 22 41 with 83 00.
+-- 22 41 with data; with 83 00.
+abbrev pub choose : ℕ → Bytes → Call
+choose = sending 0x22 0x41
+
 abbrev pub chooseActive : ℕ → Call
-chooseActive p2 = sending 0x22 0x41 p2 (0x83 ∷ 0x00 ∷ [])
+chooseActive p2 = choose p2 (0x83 ∷ 0x00 ∷ [])
 
 -- The environment and the choices that a call leaves.
 abbrev pub environmentAfter : Card → Call → Environment
@@ -36,45 +40,30 @@ environmentAfter c x = next c x .session .environment
 abbrev pub isIn : ℕ → ℕ → ℕ → ℕ → Environment
 isIn n a b c = record { number = n; choices = a ∷ b ∷ c ∷ [] }
 
-unfoldable pub environments : List Environment
+unfoldable pub environments : List (Fact Environment)
 environments =
     -- 22 F3: environment P2, 1 or 6; all choices become "active"
-    environmentAfter (choosing 1 0x1100 0x0100 0x1100) (environment 6)
-    ∷ environmentAfter (choosing 6 0x1100 0x0100 0x1100) (environment 1)
-    ∷ environmentAfter (choosing 6 0x1100 0x0100 0x1100) (environment 6)
+    environmentAfter (choosing 1 0x1100 0x0100 0x1100) (environment 6) is isIn 6 0 0 0
+    ∷ environmentAfter (choosing 6 0x1100 0x0100 0x1100) (environment 1) is isIn 1 0 0 0
+    ∷ environmentAfter (choosing 6 0x1100 0x0100 0x1100) (environment 6) is isIn 6 0 0 0
     -- 22 F3, else 6A88: environment and choices stay
-    ∷ environmentAfter (choosing 6 0x1100 0x0100 0x1200) (environment 2)
+    ∷ environmentAfter (choosing 6 0x1100 0x0100 0x1200) (environment 2) is isIn 6 0x1100 0x0100 0x1200
     -- 22 41: the choice for the kind that P2 names, and no other; the environment stays
-    ∷ environmentAfter (choosing 1 0 0 0) (chooseKeyOf 0xA4 0x11 0x00)
-    ∷ environmentAfter (choosing 1 0 0 0) (chooseKeyOf 0xB6 0x01 0x00)
-    ∷ environmentAfter (choosing 6 0 0 0) (chooseKeyOf 0xB8 0x11 0x00)
-    ∷ environmentAfter (choosing 1 0x1100 0x0100 0x1100) (chooseKeyOf 0xA4 0x12 0x00)
+    ∷ environmentAfter (choosing 1 0 0 0) (chooseKeyOf 0xA4 0x11 0x00) is isIn 1 0x1100 0 0
+    ∷ environmentAfter (choosing 1 0 0 0) (chooseKeyOf 0xB6 0x01 0x00) is isIn 1 0 0x0100 0
+    ∷ environmentAfter (choosing 6 0 0 0) (chooseKeyOf 0xB8 0x11 0x00) is isIn 6 0 0 0x1100
+    ∷ environmentAfter (choosing 1 0x1100 0x0100 0x1100) (chooseKeyOf 0xA4 0x12 0x00) is isIn 1 0x1200 0x0100 0x1100
     -- 83 00 chooses active, for that kind
-    ∷ environmentAfter (choosing 1 0x1100 0x0100 0x1200) (chooseActive 0xA4)
-    ∷ environmentAfter (choosing 6 0x1100 0x0100 0x1200) (chooseActive 0xB6)
-    ∷ environmentAfter (choosing 1 0x1100 0x0100 0x1200) (chooseActive 0xB8)
+    ∷ environmentAfter (choosing 1 0x1100 0x0100 0x1200) (chooseActive 0xA4) is isIn 1 0 0x0100 0x1200
+    ∷ environmentAfter (choosing 6 0x1100 0x0100 0x1200) (chooseActive 0xB6) is isIn 6 0x1100 0 0x1200
+    ∷ environmentAfter (choosing 1 0x1100 0x0100 0x1200) (chooseActive 0xB8) is isIn 1 0x1100 0x0100 0
     -- a refused choice changes none
-    ∷ environmentAfter (choosing 1 0x1100 0x0100 0x1200) (chooseKeyOf 0xA4 0x01 0x00)
-    ∷ environmentAfter (choosing 1 0x1100 0x0100 0x1200) (sending 0x22 0x41 0xB6 (0x83 ∷ []))
+    ∷ environmentAfter (choosing 1 0x1100 0x0100 0x1200) (chooseKeyOf 0xA4 0x01 0x00) is isIn 1 0x1100 0x0100 0x1200
+    ∷ environmentAfter (choosing 1 0x1100 0x0100 0x1200) (choose 0xB6 (0x83 ∷ [])) is isIn 1 0x1100 0x0100 0x1200
     ∷ []
 
 abbrev pub EnvironmentsShown : Type 0
-EnvironmentsShown =
-    environments
-    ≡ isIn 6 0 0 0
-    ∷ isIn 1 0 0 0
-    ∷ isIn 6 0 0 0
-    ∷ isIn 6 0x1100 0x0100 0x1200
-    ∷ isIn 1 0x1100 0 0
-    ∷ isIn 1 0 0x0100 0
-    ∷ isIn 6 0 0 0x1100
-    ∷ isIn 1 0x1200 0x0100 0x1100
-    ∷ isIn 1 0 0x0100 0x1200
-    ∷ isIn 6 0x1100 0 0x1200
-    ∷ isIn 1 0x1100 0x0100 0
-    ∷ isIn 1 0x1100 0x0100 0x1200
-    ∷ isIn 1 0x1100 0x0100 0x1200
-    ∷ []
+EnvironmentsShown = Holds environments
 
 -- The status words of 22 41 with some P2, for keys given by their two bytes.
 abbrev pub keyNumbers : List Bytes
@@ -110,35 +99,48 @@ shapes =
     ∷ (0x83 ∷ 0x03 ∷ 0x81 ∷ 0x11 ∷ 0x00 ∷ [])
     ∷ []
 
-unfoldable pub choiceWords : List (List ℕ)
-choiceWords =
-    wordsFor secondCard 0xA4
-    ∷ wordsFor secondCard 0xB6
-    ∷ wordsFor secondCard 0xB8
-    ∷ wordsFor sampleCard 0xA4
-    ∷ wordsFor sampleCard 0xB6
-    ∷ wordsFor sampleCard 0xB8
-    ∷ map (λ d. wordOn secondCard (0x00 ∷ 0x22 ∷ 0x41 ∷ 0xA4 ∷ length d ∷ d)) shapes
-    ∷ []
-
 -- The words for the four keys, and 6A80 for the seven numbers that are no key.
 abbrev pub andUnknown : ℕ → ℕ → ℕ → ℕ → List ℕ
 andUnknown a b c d = a ∷ b ∷ c ∷ d ∷ replicate 7 0x6A80
 
-abbrev pub ChoiceWordsShown : Type 0
-ChoiceWordsShown =
-    choiceWords
+unfoldable pub choiceWords : List (Fact (List ℕ))
+choiceWords =
     -- a key of its class; wrong class 6A80. B8 takes authentication keys only
-    ≡ andUnknown 0x6A80 0x6A80 0x9000 0x9000
-    ∷ andUnknown 0x9000 0x9000 0x6A80 0x6A80
-    ∷ andUnknown 0x6A80 0x6A80 0x9000 0x9000
+    wordsFor secondCard 0xA4 is andUnknown 0x6A80 0x6A80 0x9000 0x9000
+    ∷ wordsFor secondCard 0xB6 is andUnknown 0x9000 0x9000 0x6A80 0x6A80
+    ∷ wordsFor secondCard 0xB8 is andUnknown 0x6A80 0x6A80 0x9000 0x9000
     -- key not on the card 6A88, after wrong class
-    ∷ andUnknown 0x6A80 0x6A80 0x9000 0x6A88
-    ∷ andUnknown 0x9000 0x6A88 0x6A80 0x6A80
-    ∷ andUnknown 0x6A80 0x6A80 0x9000 0x6A88
+    ∷ wordsFor sampleCard 0xA4 is andUnknown 0x6A80 0x6A80 0x9000 0x6A88
+    ∷ wordsFor sampleCard 0xB6 is andUnknown 0x9000 0x6A88 0x6A80 0x6A80
+    ∷ wordsFor sampleCard 0xB8 is andUnknown 0x6A80 0x6A80 0x9000 0x6A88
     -- other shape 6A80
-    ∷ replicate 10 0x6A80
+    ∷ map (λ d. wordOn secondCard (0x00 ∷ 0x22 ∷ 0x41 ∷ 0xA4 ∷ length d ∷ d)) shapes is replicate 10 0x6A80
     ∷ []
+
+abbrev pub ChoiceWordsShown : Type 0
+ChoiceWordsShown = Holds choiceWords
+
+-- The bytes, as the high byte of a key number with low byte 00 and as the low byte, that 22 41 with some P2 takes on
+-- the second card, which has all four keys.
+abbrev pub taken : ℕ → (ℕ → Bytes) → List ℕ
+taken p2 key =
+    let start : Bytes = 0x00 ∷ 0x22 ∷ 0x41 ∷ p2 ∷ 0x05 ∷ 0x83 ∷ 0x03 ∷ 0x80 ∷ [] in
+    sieved (λ x. not (eqb (wordOn secondCard (start ++ key x)) 0x6A80)) bytes
+
+unfoldable pub keyRanges : List (Fact (List ℕ))
+keyRanges =
+    -- A4 and B8: 1100h and 1200h; B6: 0100h and 0200h
+    taken 0xA4 (λ x. x ∷ 0x00 ∷ []) is (0x11 ∷ 0x12 ∷ [])
+    ∷ taken 0xB6 (λ x. x ∷ 0x00 ∷ []) is (0x01 ∷ 0x02 ∷ [])
+    ∷ taken 0xB8 (λ x. x ∷ 0x00 ∷ []) is (0x11 ∷ 0x12 ∷ [])
+    ∷ taken 0xA4 (λ x. 0x11 ∷ x ∷ []) is (0x00 ∷ [])
+    ∷ taken 0xA4 (λ x. 0x12 ∷ x ∷ []) is (0x00 ∷ [])
+    ∷ taken 0xB6 (λ x. 0x01 ∷ x ∷ []) is (0x00 ∷ [])
+    ∷ taken 0xB6 (λ x. 0x02 ∷ x ∷ []) is (0x00 ∷ [])
+    ∷ []
+
+abbrev pub KeyRanges : Type 0
+KeyRanges = Holds keyRanges
 
 unfoldable pub keys : List Run
 keys =
@@ -233,7 +235,7 @@ keys =
           ∷ [];
       codes = marks true true true;
     }
-    -- P8 on the second card, where key 0200h is
+    -- P8 on the second card, which has key 0200h
     ∷ record {
       card = secondCard;
       turns =

@@ -11,3 +11,5 @@ pub mod DeliveryCases
 pub mod EdgeCases
 pub mod StateCases
 pub mod ImageCases
+pub mod NumberCases
+pub mod CountCases

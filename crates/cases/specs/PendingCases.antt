@@ -13,9 +13,9 @@ use Rattle.rules.specs.Sample.{sampleCard, puk, pin1, pin2}
 use Rattle.rules.specs.Cases.{shows, send, deliverTo, verifyOf, signSha1, chooseKeyOf, decipherPart, sw, fresh}
 use Rattle.rules.specs.Cases.{buffer}
 use Rattle.cases.specs.SecondCard.{secondCard, text}
-use Rattle.cases.specs.Turns.{Run, _⇒_, from, Shown, tries, inClass, bare, withLe, sending, selectRoot}
-use Rattle.cases.specs.Turns.{selectDirectory, selectFile, readRecord, getResponse, environment, fives}
-use Rattle.cases.specs.Turns.{withSession, sampleTries, sampleMarks, at, inEnvironment, chained, waiting}
+use Rattle.cases.specs.Turns.{Fact, _is_, Holds, Run, _⇒_, from, Shown, tries, inClass, bare, withLe, sending}
+use Rattle.cases.specs.Turns.{selectRoot, selectDirectory, selectFile, readRecord, getResponse, environment}
+use Rattle.cases.specs.Turns.{fives, withSession, sampleTries, sampleMarks, at, inEnvironment, chained, waiting}
 
 -- The sample card in file 0016h with a held answer of 10 bytes and a chain of 255.
 abbrev pub pendingOn : Card → Card
@@ -29,8 +29,11 @@ pub record Left : Type 0 where
   pub held : ℕ
   pub chain : ℕ
 
+abbrev pub left : ℕ → ℕ → Left
+left held chain = record { held = held; chain = chain }
+
 abbrev pub leftBy : Card → Call → Left
-leftBy c x = record { held = next c x .session .held .len; chain = next c x .session .chain .len }
+leftBy c x = left (next c x .session .held .len) (next c x .session .chain .len)
 
 -- Calls that leave neither: every step's refusal, and every command, whatever it answers.
 unfoldable pub dropping : List Left
@@ -91,31 +94,21 @@ dropping =
 
 -- What keeps the chain, the held answer or both: a 2A 80 86 of class 10h, which joins; a GET RESPONSE in part; the
 -- edge's refusals.
-unfoldable pub keeping : List Left
+unfoldable pub keeping : List (Fact Left)
 keeping =
-    leftBy pending (decipherPart 0x10 1)
-    ∷ leftBy pending (decipherPart 0x10 2)
-    ∷ leftBy pending (getResponse 0x04)
-    ∷ leftBy pending (getResponse 0x09)
-    ∷ leftBy pending (getResponse 0x0A)
-    ∷ leftBy pending (Command [] (0x30 ∷ []) (0x30 ∷ []) (replicate 257 0xEE))
-    ∷ leftBy pending (Command [] [] (0x30 ∷ []) buffer)
-    ∷ leftBy pending (deliverTo [])
+    leftBy pending (decipherPart 0x10 1) is left 0 256
+    ∷ leftBy pending (decipherPart 0x10 2) is left 0 257
+    ∷ leftBy pending (getResponse 0x04) is left 6 0
+    ∷ leftBy pending (getResponse 0x09) is left 1 0
+    ∷ leftBy pending (getResponse 0x0A) is left 0 0
+    ∷ leftBy pending (Command [] (0x30 ∷ []) (0x30 ∷ []) (replicate 257 0xEE)) is left 10 255
+    ∷ leftBy pending (Command [] [] (0x30 ∷ []) buffer) is left 10 255
+    ∷ leftBy pending (deliverTo []) is left 10 255
     ∷ []
 
 pub record PendingShown : Type 0 where
-  pub dropped : dropping ≡ replicate (length dropping) (record { held = 0; chain = 0 })
-  pub kept :
-      keeping
-      ≡ record { held = 0; chain = 256 }
-      ∷ record { held = 0; chain = 257 }
-      ∷ record { held = 6; chain = 0 }
-      ∷ record { held = 1; chain = 0 }
-      ∷ record { held = 0; chain = 0 }
-      ∷ record { held = 10; chain = 255 }
-      ∷ record { held = 10; chain = 255 }
-      ∷ record { held = 10; chain = 255 }
-      ∷ []
+  pub dropped : dropping ≡ replicate (length dropping) (left 0 0)
+  pub kept : Holds keeping
 
 -- The PIN record of 3 tries.
 abbrev pub pinRecord : Bytes
@@ -142,7 +135,7 @@ giving =
       card = at 0xEEEE 0x5044 secondCard;
       turns =
           bare 0xB2 0x01 0x04 ⇒ sw 0x6101
-          ∷ getResponse 0x01 ⇒ shows (1 ∷ []) 0x9000
+          ∷ getResponse 0x01 ⇒ shows (0xFF ∷ []) 0x9000
           ∷ withLe 0xB2 0x10 0x04 0x3F ⇒ sw 0x6140
           ∷ getResponse 0x40 ⇒ shows (text 16) 0x9000
           ∷ withLe 0xB2 0x10 0x04 0x40 ⇒ shows (text 16) 0x9000

@@ -26,15 +26,15 @@ secondPin2 =
 
 -- The record of 0033h.
 abbrev pub secondReferences : Bytes
-secondReferences = replicate 9 0xA1 ++ 0x12 ∷ 0x00 ∷ (replicate 8 0xA2 ++ 0x02 ∷ 0x00 ∷ [])
+secondReferences = replicate 9 0xFF ++ 0x12 ∷ 0x00 ∷ (replicate 8 0x3A ++ 0x02 ∷ 0x00 ∷ [])
 
--- Personal record n: the byte n at its end, 40h + n before it. Record 1 has 1 byte, every other 4n, the last 64.
+-- Personal record n, from 2: 4n bytes, the byte n at its end, 40h + n before it. Record 1 is the byte FFh.
 abbrev pub text : ℕ → Bytes
 text n = replicate (4 * n - 1) (0x40 + n) ++ n ∷ []
 
 abbrev pub texts : List Bytes
 texts =
-    (1 ∷ []) ∷ text 2 ∷ text 3 ∷ text 4 ∷ text 5 ∷ text 6 ∷ text 7 ∷ text 8
+    (0xFF ∷ []) ∷ text 2 ∷ text 3 ∷ text 4 ∷ text 5 ∷ text 6 ∷ text 7 ∷ text 8
     ∷ text 9 ∷ text 10 ∷ text 11 ∷ text 12 ∷ text 13 ∷ text 14 ∷ text 15 ∷ text 16 ∷ []
 
 abbrev pub recordWith : Bytes → Record

@@ -4,7 +4,7 @@ use Prim.Native.Nat.{ℕ, _-_}
 use mathlib.Core.Path.{_≡_}
 use mathlib.Core.Bool.{Bool, true, false}
 use mathlib.Core.List.{List, [], _∷_, _++_, map}
-use lib.ListN.{length, replicate, set}
+use lib.ListN.{length, take, replicate, set}
 use Rattle.octets.specs.Octets.{Bytes}
 use Rattle.rules.specs.declared.Card.{Card}
 use Rattle.rules.specs.declared.Code.{Code}
@@ -41,17 +41,15 @@ withPin2 v = withCodes sampleCard (set (sampleCard .codes) 2 v)
 abbrev pub withProfile : Profile → Card
 withProfile p = record { codes = sampleCard .codes; profile = p; session = sampleCard .session }
 
+abbrev pub profileOf : List Bool → Bytes → List Record → Profile
+profileOf keys d personal = record { keys = keys; references = d; personal = personal }
+
 abbrev pub withReferences : Bytes → Card
-withReferences d =
-    withProfile (record { keys = sampleCard .profile .keys; references = d; personal = sampleCard .profile .personal })
+withReferences d = withProfile (profileOf (sampleCard .profile .keys) d (sampleCard .profile .personal))
 
 abbrev pub withRecord : ℕ → Record → Card
 withRecord n r =
-    withProfile (record {
-      keys = sampleCard .profile .keys;
-      references = sampleCard .profile .references;
-      personal = set (sampleCard .profile .personal) (n - 1) r;
-    })
+    withProfile (profileOf (sampleCard .profile .keys) references (set (sampleCard .profile .personal) (n - 1) r))
 
 abbrev pub sampleSession : Session → Card
 sampleSession = withSession sampleCard
@@ -149,8 +147,12 @@ bad =
     ∷ withReferences (naming 0x11 0x00)
     -- personal records, the first and the last
     ∷ map (withRecord 1) badRecords ++ map (withRecord 16) badRecords
+    -- two codes; fifteen records; two key marks, none of them of the active authentication key
+    ++ withCodes sampleCard (take 2 (sampleCard .codes))
+    ∷ withProfile (profileOf (sampleCard .profile .keys) references (take 15 (sampleCard .profile .personal)))
+    ∷ withProfile (profileOf (take 2 (sampleCard .profile .keys)) references (sampleCard .profile .personal))
     -- a directory that is none, also with a file of EEEEh
-    ++ at 0x0000 0x0000 sampleCard
+    ∷ at 0x0000 0x0000 sampleCard
     ∷ at 0xEE00 0x5044 sampleCard
     -- a file that is not in the current directory
     ∷ at 0x3F00 0x5044 sampleCard

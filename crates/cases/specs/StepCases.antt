@@ -1,16 +1,15 @@
 -- Document 01, "Order of judgement for a command", steps 1 to 6, and their order.
 use Prim.Native.Nat.{ℕ}
-use mathlib.Core.Path.{_≡_}
 use mathlib.Core.Bool.{true, false, cond, not}
-use mathlib.Core.List.{List, [], _∷_, map}
+use mathlib.Core.List.{List, [], _∷_}
 use lib.ListN.{replicate}
 use lib.Dec.{eqb}
 use Rattle.octets.specs.Octets.{Bytes}
 use Rattle.rules.specs.Codes.{PIN1}
 use Rattle.rules.specs.Sample.{sampleCard, pin1}
 use Rattle.rules.specs.Cases.{send, sw, fresh}
-use Rattle.cases.specs.Turns.{Run, _⇒_, from, Shown, tries, marks, inClass, bare, withLe, sending}
-use Rattle.cases.specs.Turns.{sendingWithLe, selectRoot, sampleTries, wordOn, counted, sieved}
+use Rattle.cases.specs.Turns.{bytes, Fact, _is_, Holds, Run, _⇒_, from, Shown, tries, marks, inClass, bare}
+use Rattle.cases.specs.Turns.{withLe, sending, sendingWithLe, selectRoot, sampleTries, wordOn, counted, sieved}
 
 unfoldable pub steps : List Run
 steps =
@@ -111,9 +110,6 @@ steps =
 abbrev pub StepsShown : Type 0
 StepsShown = Shown steps
 
-abbrev pub bytes : List ℕ
-bytes = counted 256 0
-
 -- The bytes of all 256 with which a command without data and Le is not refused by a status word. The card's PINs have
 -- no tries and its PUK is not verified, so that no step but 5 says 6A86.
 abbrev pub passing : ℕ → (ℕ → Bytes) → List ℕ
@@ -126,70 +122,58 @@ firsts ins p2 = passing 0x6A86 (λ x. 0x00 ∷ ins ∷ x ∷ p2 ∷ [])
 abbrev pub seconds : ℕ → ℕ → List ℕ
 seconds ins p1 = passing 0x6A86 (λ x. 0x00 ∷ ins ∷ p1 ∷ x ∷ [])
 
--- What passes, and what is to pass.
-pub record Range : Type 0 where
-  pub passes : List ℕ
-  pub allowed : List ℕ
-
-infix 68 _are_
-abbrev pub _are_ : List ℕ → List ℕ → Range
-_are_ passes allowed = record { passes = passes; allowed = allowed }
-
-abbrev pub Ranges : List Range → Type 0
-Ranges ranges = map (λ r. r .passes) ranges ≡ map (λ r. r .allowed) ranges
-
-unfoldable pub parameterRanges : List Range
+unfoldable pub parameterRanges : List (Fact (List ℕ))
 parameterRanges =
     -- 2. class 00h or 10h
-    passing 0x6E00 (λ x. x ∷ 0xA4 ∷ 0x00 ∷ 0x0C ∷ []) are (0x00 ∷ 0x10 ∷ [])
+    passing 0x6E00 (λ x. x ∷ 0xA4 ∷ 0x00 ∷ 0x0C ∷ []) is (0x00 ∷ 0x10 ∷ [])
     -- 3. the instructions of the list. Left out are 06, 82, 05, 07, 84, CA
-    ∷ passing 0x6D00 (λ x. 0x00 ∷ x ∷ 0x00 ∷ 0x00 ∷ []) are
+    ∷ passing 0x6D00 (λ x. 0x00 ∷ x ∷ 0x00 ∷ 0x00 ∷ []) is
     (0x20 ∷ 0x22 ∷ 0x24 ∷ 0x2A ∷ 0x2C ∷ 0x88 ∷ 0xA4 ∷ 0xB0 ∷ 0xB2 ∷ 0xC0 ∷ [])
     -- 4. class 10h only with 2A 80 86
-    ∷ sieved (λ x. eqb (wordOn sampleCard (0x10 ∷ x ∷ 0x80 ∷ 0x86 ∷ [])) 0x6884) bytes are
+    ∷ sieved (λ x. eqb (wordOn sampleCard (0x10 ∷ x ∷ 0x80 ∷ 0x86 ∷ [])) 0x6884) bytes is
     (0x20 ∷ 0x22 ∷ 0x24 ∷ 0x2C ∷ 0x88 ∷ 0xA4 ∷ 0xB0 ∷ 0xB2 ∷ 0xC0 ∷ [])
-    ∷ passing 0x6884 (λ x. 0x10 ∷ 0x2A ∷ x ∷ 0x86 ∷ []) are (0x80 ∷ [])
-    ∷ passing 0x6884 (λ x. 0x10 ∷ 0x2A ∷ 0x80 ∷ x ∷ []) are (0x86 ∷ [])
+    ∷ passing 0x6884 (λ x. 0x10 ∷ 0x2A ∷ x ∷ 0x86 ∷ []) is (0x80 ∷ [])
+    ∷ passing 0x6884 (λ x. 0x10 ∷ 0x2A ∷ 0x80 ∷ x ∷ []) is (0x86 ∷ [])
     -- 5. A4: P1 00, 01, 02, P2 0C
-    ∷ firsts 0xA4 0x0C are (0x00 ∷ 0x01 ∷ 0x02 ∷ [])
-    ∷ seconds 0xA4 0x00 are (0x0C ∷ [])
-    ∷ seconds 0xA4 0x02 are (0x0C ∷ [])
+    ∷ firsts 0xA4 0x0C is (0x00 ∷ 0x01 ∷ 0x02 ∷ [])
+    ∷ seconds 0xA4 0x00 is (0x0C ∷ [])
+    ∷ seconds 0xA4 0x02 is (0x0C ∷ [])
     -- 5. B2: P1 not 0, P2 04
-    ∷ firsts 0xB2 0x04 are counted 255 1
-    ∷ seconds 0xB2 0x01 are (0x04 ∷ [])
+    ∷ firsts 0xB2 0x04 is counted 255 1
+    ∷ seconds 0xB2 0x01 is (0x04 ∷ [])
     -- 5. B0: P1 under 80h, any P2
-    ∷ firsts 0xB0 0x00 are counted 128 0
-    ∷ seconds 0xB0 0x7F are bytes
+    ∷ firsts 0xB0 0x00 is counted 128 0
+    ∷ seconds 0xB0 0x7F is bytes
     -- 5. C0: P1P2 0000
-    ∷ firsts 0xC0 0x00 are (0x00 ∷ [])
-    ∷ seconds 0xC0 0x00 are (0x00 ∷ [])
+    ∷ firsts 0xC0 0x00 is (0x00 ∷ [])
+    ∷ seconds 0xC0 0x00 is (0x00 ∷ [])
     -- 5. 20, 24: P1 00, P2 0 to 2
-    ∷ firsts 0x20 0x01 are (0x00 ∷ [])
-    ∷ seconds 0x20 0x00 are (0x00 ∷ 0x01 ∷ 0x02 ∷ [])
-    ∷ firsts 0x24 0x01 are (0x00 ∷ [])
-    ∷ seconds 0x24 0x00 are (0x00 ∷ 0x01 ∷ 0x02 ∷ [])
+    ∷ firsts 0x20 0x01 is (0x00 ∷ [])
+    ∷ seconds 0x20 0x00 is (0x00 ∷ 0x01 ∷ 0x02 ∷ [])
+    ∷ firsts 0x24 0x01 is (0x00 ∷ [])
+    ∷ seconds 0x24 0x00 is (0x00 ∷ 0x01 ∷ 0x02 ∷ [])
     -- 5. 2C: P1 00 or 03, P2 1 or 2
-    ∷ firsts 0x2C 0x02 are (0x00 ∷ 0x03 ∷ [])
-    ∷ seconds 0x2C 0x00 are (0x01 ∷ 0x02 ∷ [])
-    ∷ seconds 0x2C 0x03 are (0x01 ∷ 0x02 ∷ [])
+    ∷ firsts 0x2C 0x02 is (0x00 ∷ 0x03 ∷ [])
+    ∷ seconds 0x2C 0x00 is (0x01 ∷ 0x02 ∷ [])
+    ∷ seconds 0x2C 0x03 is (0x01 ∷ 0x02 ∷ [])
     -- 5. 22: P1 F3, any P2; P1 41, P2 A4, B6 or B8
-    ∷ firsts 0x22 0x01 are (0xF3 ∷ [])
-    ∷ firsts 0x22 0xB8 are (0x41 ∷ 0xF3 ∷ [])
-    ∷ seconds 0x22 0xF3 are bytes
-    ∷ seconds 0x22 0x41 are (0xA4 ∷ 0xB6 ∷ 0xB8 ∷ [])
+    ∷ firsts 0x22 0x01 is (0xF3 ∷ [])
+    ∷ firsts 0x22 0xB8 is (0x41 ∷ 0xF3 ∷ [])
+    ∷ seconds 0x22 0xF3 is bytes
+    ∷ seconds 0x22 0x41 is (0xA4 ∷ 0xB6 ∷ 0xB8 ∷ [])
     -- 5. 88: P1P2 0000
-    ∷ firsts 0x88 0x00 are (0x00 ∷ [])
-    ∷ seconds 0x88 0x00 are (0x00 ∷ [])
+    ∷ firsts 0x88 0x00 is (0x00 ∷ [])
+    ∷ seconds 0x88 0x00 is (0x00 ∷ [])
     -- 5. 2A: 9E 9A and 80 86; the hash 90 A0 is left out
-    ∷ firsts 0x2A 0x9A are (0x9E ∷ [])
-    ∷ seconds 0x2A 0x9E are (0x9A ∷ [])
-    ∷ firsts 0x2A 0x86 are (0x80 ∷ [])
-    ∷ seconds 0x2A 0x80 are (0x86 ∷ [])
-    ∷ firsts 0x2A 0xA0 are []
+    ∷ firsts 0x2A 0x9A is (0x9E ∷ [])
+    ∷ seconds 0x2A 0x9E is (0x9A ∷ [])
+    ∷ firsts 0x2A 0x86 is (0x80 ∷ [])
+    ∷ seconds 0x2A 0x80 is (0x86 ∷ [])
+    ∷ firsts 0x2A 0xA0 is []
     ∷ []
 
 abbrev pub ParameterRanges : Type 0
-ParameterRanges = Ranges parameterRanges
+ParameterRanges = Holds parameterRanges
 
 -- A command with n zeros for data, and without Le.
 abbrev pub zeros : ℕ → ℕ → ℕ → ℕ → Bytes
@@ -203,26 +187,26 @@ abbrev pub bodies : ℕ → ℕ → ℕ → List ℕ
 bodies ins p1 p2 =
     sieved (λ n. not (eqb (wordOn (sampleTries 3 0 0) (zeros ins p1 p2 n)) 0x6700)) (0 ∷ oneOrMore)
 
-unfoldable pub lengthRanges : List Range
+unfoldable pub lengthRanges : List (Fact (List ℕ))
 lengthRanges =
     -- 6. A4: P1 00 no data, P1 01 and 02 two bytes
-    bodies 0xA4 0x00 0x0C are (0 ∷ [])
-    ∷ bodies 0xA4 0x01 0x0C are (2 ∷ [])
-    ∷ bodies 0xA4 0x02 0x0C are (2 ∷ [])
+    bodies 0xA4 0x00 0x0C is (0 ∷ [])
+    ∷ bodies 0xA4 0x01 0x0C is (2 ∷ [])
+    ∷ bodies 0xA4 0x02 0x0C is (2 ∷ [])
     -- 6. B2 no data; 20 and 24 data required
-    ∷ bodies 0xB2 0x01 0x04 are (0 ∷ [])
-    ∷ bodies 0x20 0x00 0x01 are oneOrMore
-    ∷ bodies 0x24 0x00 0x01 are oneOrMore
+    ∷ bodies 0xB2 0x01 0x04 is (0 ∷ [])
+    ∷ bodies 0x20 0x00 0x01 is oneOrMore
+    ∷ bodies 0x24 0x00 0x01 is oneOrMore
     -- 6. 2C: P1 03 no data, P1 00 data required
-    ∷ bodies 0x2C 0x03 0x01 are (0 ∷ [])
-    ∷ bodies 0x2C 0x00 0x01 are oneOrMore
+    ∷ bodies 0x2C 0x03 0x01 is (0 ∷ [])
+    ∷ bodies 0x2C 0x00 0x01 is oneOrMore
     -- 6. 22 F3 no data; 22 41 data required
-    ∷ bodies 0x22 0xF3 0x01 are (0 ∷ [])
-    ∷ bodies 0x22 0x41 0xA4 are oneOrMore
+    ∷ bodies 0x22 0xF3 0x01 is (0 ∷ [])
+    ∷ bodies 0x22 0x41 0xA4 is oneOrMore
     -- 6. 88: 1 to 245 bytes; 2A 9E 9A data required
-    ∷ bodies 0x88 0x00 0x00 are (1 ∷ 2 ∷ 3 ∷ 244 ∷ 245 ∷ [])
-    ∷ bodies 0x2A 0x9E 0x9A are oneOrMore
+    ∷ bodies 0x88 0x00 0x00 is (1 ∷ 2 ∷ 3 ∷ 244 ∷ 245 ∷ [])
+    ∷ bodies 0x2A 0x9E 0x9A is oneOrMore
     ∷ []
 
 abbrev pub LengthRanges : Type 0
-LengthRanges = Ranges lengthRanges
+LengthRanges = Holds lengthRanges

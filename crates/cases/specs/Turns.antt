@@ -152,3 +152,20 @@ counted (suc k) n = n ∷ counted k (suc n)
 abbrev pub sieved : (ℕ → Bool) → List ℕ → List ℕ
 sieved test [] = []
 sieved test (x ∷ xs) = cond (test x) (x ∷ sieved test xs) (sieved test xs)
+
+-- All bytes.
+abbrev pub bytes : List ℕ
+bytes = counted 256 0
+
+-- What is found, and what is to be found.
+pub record Fact (A : Type 0) : Type 0 where
+  pub found : A
+  pub wanted : A
+
+infix 68 _is_
+abbrev pub _is_ : {A : Type 0} → A → A → Fact A
+_is_ found wanted = record { found = found; wanted = wanted }
+
+-- What a list of them states.
+abbrev pub Holds : {A : Type 0} → List (Fact A) → Type 0
+Holds facts = map (λ x. x .found) facts ≡ map (λ x. x .wanted) facts
