@@ -188,6 +188,8 @@ keys =
           ∷ deliverTo (replicate 256 0x5A) ⇒ shows (replicate 256 0x5A) 0x9000
           ∷ sendingWithLe 0x88 0x00 0x00 (0x41 ∷ []) 0xFF ⇒ hands 1 0x1100 (block (0x41 ∷ []))
           ∷ deliverTo (replicate 256 0x5A) ⇒ sw 0x6100
+          ∷ sending 0x88 0x00 0x00 (0x41 ∷ []) ⇒ hands 1 0x1100 (block (0x41 ∷ []))
+          ∷ deliverTo (replicate 256 0x5A) ⇒ sw 0x6100
           ∷ [];
       codes = marks false true false;
     }

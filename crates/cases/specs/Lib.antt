@@ -13,3 +13,4 @@ pub mod StateCases
 pub mod ImageCases
 pub mod NumberCases
 pub mod CountCases
+pub mod WaitingCases

@@ -11,13 +11,13 @@ use Rattle.rules.specs.Session.{withHeld}
 use Rattle.rules.specs.Counting.{Call, Command, PowerReset, next}
 use Rattle.rules.specs.Sample.{sampleCard, puk, pin1, pin2}
 use Rattle.rules.specs.Cases.{shows, send, deliverTo, verifyOf, signSha1, chooseKeyOf, decipherPart, sw, fresh}
-use Rattle.rules.specs.Cases.{buffer}
+use Rattle.rules.specs.Cases.{buffer, refuses}
 use Rattle.cases.specs.SecondCard.{secondCard, text}
 use Rattle.cases.specs.Turns.{Fact, _is_, Holds, Run, _⇒_, from, Shown, tries, inClass, bare, withLe, sending}
 use Rattle.cases.specs.Turns.{selectRoot, selectDirectory, selectFile, readRecord, getResponse, environment}
 use Rattle.cases.specs.Turns.{fives, withSession, sampleTries, sampleMarks, at, inEnvironment, chained, waiting}
 
--- The sample card in file 0016h with a held answer of 10 bytes and a chain of 255.
+-- A card in file 0016h with a held answer of 10 bytes and a chain of 255.
 abbrev pub pendingOn : Card → Card
 pendingOn c = withSession c (withHeld (chained 255 (at 0x3F00 0x0016 c) .session) (replicate 10 0x77))
 
@@ -188,6 +188,7 @@ giving =
     -- the chain: dropped by a refused command and by a GET RESPONSE, kept by an edge refusal
     ∷ from (chained 255 sampleCard) (bare 0xA4 0x03 0x0C ⇒ sw 0x6A86 ∷ decipherPart 0x00 2 ⇒ sw 0x6700 ∷ []) fresh
     ∷ from (chained 255 sampleCard) (getResponse 0x00 ⇒ sw 0x6985 ∷ decipherPart 0x00 2 ⇒ sw 0x6700 ∷ []) fresh
+    ∷ from (chained 255 sampleCard) (Command [] [] [] buffer ⇒ refuses 3 ∷ decipherPart 0x00 2 ⇒ sw 0x6985 ∷ []) fresh
     ∷ []
 
 abbrev pub GivingShown : Type 0

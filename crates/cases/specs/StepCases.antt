@@ -13,7 +13,7 @@ use Rattle.cases.specs.Turns.{withLe, sending, sendingWithLe, selectRoot
 
 unfoldable pub steps : List Run
 steps =
-    -- 1. under 4 bytes: 6700. 4 bytes: no data, no Le. 5: Le, also where it could be a number of bytes
+    -- 1. under 4 bytes: 6700. 4 bytes: no data, no Le. 5: Le; the fifth byte is never Lc there
     record {
       card = sampleCard;
       turns =
@@ -110,7 +110,7 @@ steps =
 abbrev pub StepsShown : Type 0
 StepsShown = Shown steps
 
--- The bytes of all 256 with which a command without data and Le is not refused by a status word. The card's PINs have
+-- The bytes of all 256 with which a command without data and Le is not refused by this status word. The card's PINs have
 -- no tries and its PUK is not verified, so that no step but 5 says 6A86.
 abbrev pub passing : ℕ → (ℕ → Bytes) → List ℕ
 passing word apdu = sieved (λ x. not (eqb (wordOn (sampleTries 3 0 0) (apdu x)) word)) bytes

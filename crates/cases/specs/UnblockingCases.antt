@@ -49,7 +49,7 @@ unblocking =
           ∷ [];
       codes = tries 0 3 2;
     }
-    -- P1 03: PUK not verified 6982; it is not enough that the PIN was
+    -- P1 03: PUK not verified 6982
     ∷ from (blocked 3 false) (unblock PIN1 ⇒ sw 0x6982 ∷ unblock PIN2 ⇒ sw 0x6982 ∷ []) (tries 3 0 0)
     -- P1 03, else: tries 3 of the PIN that P2 names, PIN and PUK marks off, the PIN's value as it was
     ∷ from (blocked 3 true) (unblock PIN1 ⇒ sw 0x9000 ∷ []) (tries 3 3 0)

@@ -10,7 +10,7 @@ use lib.Seq.{drop-cons}
 use Rattle.octets.specs.Octets.{member}
 use Rattle.rules.specs.declared.Command.{Command}
 use Rattle.rules.specs.declared.Header.{Header}
-use Rattle.rules.specs.declared.Named.the-variants.{Is, Nothing}
+use Rattle.rules.specs.Numbers.{names as names-it, namesNone}
 use Rattle.rules.specs.Judgement.{instruction, parameters, namedIn}
 
 module _ (h : Header) (l : List Command) (i : ℕ) where
@@ -22,7 +22,7 @@ module _ (h : Header) (l : List Command) (i : ℕ) where
     abbrev names : Bool
     names = eqb (h .ins) (instruction command) && parameters command (h .p1) (h .p2)
 
-    pub named-here : names ≡ true → namedIn h (drop i l) ≡ Is command
+    pub named-here : names ≡ true → namedIn h (drop i l) ≡ names-it command
     unfolding namedIn
     named-here e = rw (drop-cons l i d, e)
 
@@ -35,7 +35,7 @@ module _ (h : Header) (l : List Command) (i : ℕ) where
         ≡ ((k || eqb (h .ins) (instruction command)) || member (h .ins) (map instruction (drop (i + 1) l)))
     known-more k = rw (add-one, drop-cons l i d, or-assoc)
 
-  pub named-none : length l ≤ i → namedIn h (drop i l) ≡ Nothing
+  pub named-none : length l ≤ i → namedIn h (drop i l) ≡ namesNone 0x6A86
   unfolding namedIn
   named-none past = rw (drop-of-length-le l past)
 

@@ -5,6 +5,7 @@ use rules::Named;
 ghost use mathlib.Core.Path.{_≡_};
 ghost use mathlib.Core.Bool.{cond, _&&_};
 ghost use lib.Dec.{eqb};
+ghost use Rattle.rules.specs.Numbers.{naming};
 ghost use Rattle.rules.specs.Judgement.{commands, instruction, parameters, lengths};
 ghost use Rattle.rules.specs.Judgement.{knownClass, knownInstruction, badChaining, namedIn};
 
@@ -107,7 +108,7 @@ fn names(h: Header, command: Command) -> bool
 
 // Step 5: the command that the header names.
 pub fn named(h: Header) -> Named
-    ensures { λ r. ⌜ r ≡ namedIn h commands ⌝ }
+    ensures { λ r. ⌜ naming r ≡ namedIn h commands ⌝ }
 {
     let list = commands();
     let mut i = 0;

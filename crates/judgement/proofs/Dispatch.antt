@@ -7,6 +7,7 @@ use Rattle.rules.specs.declared.Command.{Command}
 use Rattle.rules.specs.declared.Header.{Header}
 use Rattle.rules.specs.declared.Named.{Named}
 use Rattle.rules.specs.declared.Named.the-variants.{Is, Nothing}
+use Rattle.rules.specs.Numbers.{Naming, naming}
 use Rattle.rules.specs.Answers.{Step}
 use Rattle.rules.specs.Judgement.{
   commands,
@@ -23,19 +24,19 @@ use Rattle.rules.specs.Judgement.{
 
 module _ (c : Card) (h : Header) (d authentication signature : Bytes) where
   -- steps 5 to 7
-  abbrev named : Named → Step
+  abbrev named : Naming → Step
   named n = judgeNamed n c h d authentication signature
 
-  pub unnamed : {n : Named} → n ≡ Nothing → refusal c 0x6A86 ≡ named n
+  pub unnamed : {n : Named} → n ≡ Nothing → refusal c 0x6A86 ≡ named (naming n)
   unfolding judgeNamed
   unnamed e = simp e
 
   module _ {n : Named} (x : Command) (is : n ≡ Is x) where
-    pub lengths-refused : not (lengths x h) ≡ true → refusal c 0x6700 ≡ named n
+    pub lengths-refused : not (lengths x h) ≡ true → refusal c 0x6700 ≡ named (naming n)
     unfolding judgeNamed
     lengths-refused e = simp (is, e)
 
-    pub admitted : not (lengths x h) ≡ false → ownRules x c h d authentication signature ≡ named n
+    pub admitted : not (lengths x h) ≡ false → ownRules x c h d authentication signature ≡ named (naming n)
     unfolding judgeNamed
     admitted e = simp (is, e)
 

@@ -6,6 +6,7 @@ use rules::Named;
 use steps::StepOutput;
 ghost use mathlib.Core.Path.{_≡_};
 ghost use lib.ListN.{take};
+ghost use Rattle.rules.specs.Numbers.{naming};
 ghost use Rattle.rules.specs.Judgement.{refusal, ownRules, judgeNamed, judgeHeader};
 ghost use Rattle.apdu.specs.Reach.{leInReach};
 ghost use Rattle.steps.specs.Steps.{stepOutputFor};
@@ -78,7 +79,7 @@ fn judge_named<'a>(
     signature: &'a [u8],
 ) -> StepOutput
     requires { ⌜ Sized h (now d) ⌝ }
-    ensures { λ r. ⌜ r ≡ stepOutputFor (judgeNamed named card h (now (d .entry)) (now (authentication .entry)) (now (signature .entry))) ⌝ }
+    ensures { λ r. ⌜ r ≡ stepOutputFor (judgeNamed (naming named) card h (now (d .entry)) (now (authentication .entry)) (now (signature .entry))) ⌝ }
 {
     let Named::Is(command) = named else {
         return refuse(card, 0x6A86);

@@ -16,16 +16,17 @@ use Rattle.rules.specs.declared.Session.{Session}
 use Rattle.rules.specs.Numbers.{Returned, edge, responded, handedOut, refused}
 use Rattle.rules.specs.Apdu.{parse}
 use Rattle.rules.specs.State.{good}
-use Rattle.rules.specs.Answers.{Answer, response, job}
+use Rattle.rules.specs.Answers.{Answer, response, job, inSession}
 use Rattle.rules.specs.Judgement.{judgeForm, judge}
+use Rattle.rules.specs.Delivery.{deliver}
 use Rattle.rules.specs.Edge.{Result, refuse, responseIn, written, answered, shortBuffer, badCertificate, jobWaits}
 use Rattle.rules.specs.Edge.{command, delivery, powerReset}
 use Rattle.rules.specs.Counting.{Call, Command, Delivery, PowerReset, step, returnedStatus, sentBy, dataSent}
-use Rattle.rules.specs.Demands.{bufferOf, Lent, Idle, Due, badState, commandBuffer, deliveryBuffer}
+use Rattle.rules.specs.Demands.{edgeRefusal}
+use Rattle.rules.specs.Demands.{bufferOf, LengthFits, Idle, Due, badState, commandBuffer, deliveryBuffer}
 use Rattle.rules.specs.Demands.{authenticationCertificate, signatureCertificate, jobWaiting, noJobWaiting}
 use Rattle.rules.specs.Demands.{Possible, commandResponse, commandJob, deliveryResponse, reset, blockOf}
 use Rattle.rules.specs.Demands.{refusalStatus, Demand1, ProfileKept}
-use Rattle.rules.specs.Demands as Demands
 use Rattle.rules.proofs.Forms.{refusal-6700, data-sent}
 use Rattle.rules.proofs.Keeping.{Gives, refuses, responds, handsOut, resets, JobOf, call-gives}
 
@@ -69,7 +70,7 @@ job-possible c (Delivery result buffer) kind key block own = absurd own
 job-possible c PowerReset kind key block own = absurd own
 
 possible-of : {c : Card} {x : Call} {o : Result} → Gives c x o → Possible x (o .returned)
-possible-of (refuses x n) = Demands.refusal x n
+possible-of (refuses x n) = edgeRefusal x n
 possible-of (responds x new d sw g fit room) = response-possible x (length d + 2) room (omega arith) (omega (arith, fit .size))
 possible-of {c} (handsOut x new kind key block g own room) = job-possible c x kind key block own
 possible-of (resets new g) = reset
@@ -125,21 +126,21 @@ neither : (s t : Bool) → (s || t) ≡ false → (s ≡ false) × (t ≡ false)
 neither true t e = absurd (false≢true (sym e))
 neither false t e = (refl, e)
 
-not-lent : (b : Bytes) → badCertificate b ≡ true → ¬ Lent b
+not-lent : (b : Bytes) → badCertificate b ≡ true → ¬ LengthFits b
 not-lent b e l =
     or-cases ⊥ (eqb (length b) 0) (ltb 1536 (length b)) e
     (λ z. omega (arith, eqb-true (length b) 0 z, l .0))
     (λ z. omega (arith, ltb-true 1536 (length b) z, l .1))
 
-lent : (b : Bytes) → badCertificate b ≡ false → Lent b
+lent : (b : Bytes) → badCertificate b ≡ false → LengthFits b
 lent b e =
     let tests = neither (eqb (length b) 0) (ltb 1536 (length b)) e in
     (omega (arith, eqb-false (length b) 0 (tests .0)), ltb-false 1536 (length b) (tests .1))
 
-lent-good : (b : Bytes) → Lent b → badCertificate b ≡ false
+lent-good : (b : Bytes) → LengthFits b → badCertificate b ≡ false
 lent-good b l = simp (ne-eqb (length b) 0 (omega (arith, l .0)), le-ltb 1536 (length b) (l .1))
 
-not-lent-bad : (b : Bytes) → ¬ Lent b → badCertificate b ≡ true
+not-lent-bad : (b : Bytes) → ¬ LengthFits b → badCertificate b ≡ true
 not-lent-bad b n = by-test _ (badCertificate b) (λ e. e) (λ e. absurd (n (lent b e)))
 
 idle-not : (c : Card) → jobWaits c ≡ false → Idle c
@@ -226,6 +227,27 @@ module _ (c : Card) (apdu authentication signature buffer : Bytes) (sw : ℕ) (p
       (λ lent. split Alone (jobWaits c) (λ e. refuses (refuse c buffer 4) 4 (rw (g, room, lent, e)))
       (λ _. judged-alone))))
 
+-- A delivered result whose length is wrong.
+module _ (c : Card) (result buffer : Bytes) (wrong : ¬ (length result ≡ 256)) where
+  abbrev y : Call
+  y = Delivery result buffer
+
+  abbrev Ended : Result → Type 0
+  Ended o = (o .returned ≡ responded 2) × (o .buffer ≡ 0x64 ∷ 0x00 ∷ drop 2 buffer)
+
+  delivered-alone : Ended (answered buffer c (inSession (c .codes) (deliver (c .session) result)))
+  unfolding deliver written responseIn
+  delivered-alone = rw (ne-eqb (length result) 256 wrong) (refl, refl)
+
+  misdelivered : ((n : ℕ) → ¬ Due c y n) → Ended (step c y)
+  unfolding step delivery
+  misdelivered none =
+      let refuses : (o : Result) (n : ℕ) → step c y .returned ≡ edge n → Ended o = λ o n e. absurd (none n (refused-due c y n e)) in
+      split Ended (not (good c)) (λ e. refuses (refuse c buffer 1) 1 (rw e))
+      (λ g. split Ended (shortBuffer buffer) (λ e. refuses (refuse c buffer 2) 2 (rw (g, e)))
+      (λ room. split Ended (not (jobWaits c)) (λ e. refuses (refuse c buffer 5) 5 (rw (g, room, e)))
+      (λ _. delivered-alone)))
+
 -- No call changes the profile.
 written-profile : (w : Bytes) (new : Card) (a : Answer) → written w new a .card .profile ≡ new .profile
 unfolding written
@@ -262,4 +284,5 @@ demand-1 =
             sized = sized-of given;
           };
       malformed = malformed;
+      misdelivered = misdelivered;
     }

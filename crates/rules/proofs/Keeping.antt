@@ -17,9 +17,7 @@ use Rattle.rules.specs.declared.Command.the-variants.{Select, ReadRecord
 use Rattle.rules.specs.declared.Command.the-variants.{ResetRetry, SetEnvironment, ChooseKey, InternalAuthenticate}
 use Rattle.rules.specs.declared.Command.the-variants.{ComputeSignature, Decipher}
 use Rattle.rules.specs.declared.Header.{Header}
-use Rattle.rules.specs.declared.Named.{Named}
-use Rattle.rules.specs.declared.Named.the-variants.{Is, Nothing}
-use Rattle.rules.specs.Numbers.{LengthForm, responded, handedOut, wasReset}
+use Rattle.rules.specs.Numbers.{LengthForm, Naming, names, namesNone, responded, handedOut, wasReset}
 use Rattle.rules.specs.Apdu.{parse, dataOf}
 use Rattle.rules.specs.Codes.{PUK, PIN1, PIN2, closed}
 use Rattle.rules.specs.Session.{dropHeld, dropChain, dropBoth}
@@ -48,9 +46,9 @@ pub record Fits (h : Header) (x : Instruction) : Type 0 where
   pub ins : h .ins ≡ instruction x
   pub parameters : parameters x (h .p1) (h .p2) ≡ true
 
-pub data Found (h : Header) : Named → Type 0 where
-  is : (x : Instruction) → Fits h x → Found h (Is x)
-  nothing : Found h Nothing
+pub data Found (h : Header) : Naming → Type 0 where
+  is : (x : Instruction) → Fits h x → Found h (names x)
+  nothing : Found h (namesNone 0x6A86)
 
 pub found : (h : Header) (xs : List Instruction) → Found h (namedIn h xs)
 unfolding namedIn
@@ -134,7 +132,7 @@ module _ (c : Card) (g : good c ≡ true) (idle : c .session .job .kind ≡ 0) w
     ownRules-keeps Decipher p l =
         session-only (decipher-keeps (c .session) (c .codes) keys _ references-good _ heldless h d le refl refl idle)
 
-    judgeNamed-keeps : {n : Named} → Found h n → KeepsBoth J keys (judgeNamed n c h d authentication signature)
+    judgeNamed-keeps : {n : Naming} → Found h n → KeepsBoth J keys (judgeNamed n c h d authentication signature)
     unfolding judgeNamed
     judgeNamed-keeps nothing = refusal-both 0x6A86 (omega arith)
     judgeNamed-keeps (is x fits) =

@@ -15,7 +15,7 @@ use Rattle.rules.specs.declared.Verdict.the-variants.{Right, Wrong, NoTr
 use Rattle.rules.specs.Codes.{PUK, fullTries, allowed, marked, zeroCode, codeOf, withCode, closed}
 use Rattle.rules.specs.State.{goodCode, goodCodes}
 use Rattle.rules.specs.Answers.{codeStatus}
-use Rattle.rules.specs.CodeCommands.{notAllowed, hasTries, verdict, judged, verify, replaced, change}
+use Rattle.rules.specs.CodeCommands.{swNotAllowed, swHasTries, verdict, judged, verify, replaced, change}
 use Rattle.rules.specs.CodeCommands.{unblockByPresentedPuk, resetRetry}
 use Rattle.rules.proofs.Walks.{replaced-walk, verifiedPuk-walk, resetRetry-walk}
 use Rattle.rules.proofs.Parts.{code-tries, marked-good, stored-good, good-code, codes-good, code-place}
@@ -64,7 +64,7 @@ module _ (codes : List Code) (g : goodCodes codes ≡ true) where
   unfolding judged
   replaced-keeps k b j new stored presented s =
       replaced-walk KeepsCodes codes k j new stored presented (λ _. refused-keeps 0x6983 g refl) (λ _ _. judged-keeps k b Wrong)
-      (refused-keeps notAllowed g refl) (λ _ _ a. done-keeps (s a))
+      (refused-keeps swNotAllowed g refl) (λ _ _ a. done-keeps (s a))
 
   pub change-keeps : (h : Header) (d : Bytes) → h .p2 < 3 → KeepsCodes (change codes h d)
   unfolding change
@@ -81,7 +81,7 @@ module _ (codes : List Code) (g : goodCodes codes ≡ true) where
 
   pub resetRetry-keeps : (h : Header) (d : Bytes) → h .p2 < 3 → KeepsCodes (resetRetry codes h d)
   resetRetry-keeps h d b =
-      resetRetry-walk KeepsCodes codes h d (refused-keeps hasTries g refl)
+      resetRetry-walk KeepsCodes codes h d (refused-keeps swHasTries g refl)
       (λ _ _. verifiedPuk-walk KeepsCodes codes (h .p2) (refused-keeps 0x6982 g refl)
       (λ _. done-keeps (closed-good _ (unmarked-good codes g (h .p2) b 3 (omega arith)) PUK (omega arith))))
       (λ _ _. presented-keeps (h .p2) b d)

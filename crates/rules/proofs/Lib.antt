@@ -17,4 +17,4 @@ pub mod Sheet
 pub mod SequenceBound
 pub mod SequenceMet
 pub mod Demand3
-pub mod Padding
+pub mod CardSize

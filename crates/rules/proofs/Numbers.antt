@@ -3,6 +3,8 @@ use mathlib.Core.Path.{_≡_, refl, sym, ap, _∙_}
 use mathlib.Core.Bool.{cond}
 use Prim.Native.Nat.{ℕ}
 use lib.Dec.{eqb}
+use Rattle.rules.specs.declared.Named.{Named}
+use Rattle.rules.specs.declared.Named.the-variants.{Is, Nothing}
 use Rattle.rules.specs.declared.Parsed.{Parsed}
 use Rattle.rules.specs.declared.Parsed.the-variants.{Form, Malformed}
 use Rattle.rules.specs.declared.JobKind.{JobKind}
@@ -20,6 +22,7 @@ use Rattle.rules.specs.declared.LoadResult.the-variants.{Accepted, Fault
 use Rattle.rules.specs.Numbers.{kindNumber, refusalNumber, Returned, edge, responded, handedOut, wasReset}
 use Rattle.rules.specs.Numbers.{returned, faultNumber, loadNumber, LengthForm, form, refused, lengthForm}
 use Rattle.rules.specs.Numbers.{ToldApart}
+use Rattle.rules.specs.Numbers.{Naming, names, namesNone, naming}
 
 -- A map with an inverse tells all cases apart.
 apart : {A B : Type 0} (f : A → B) (g : B → A) → ((a : A) → g (f a) ≡ a) → (a b : A) → f a ≡ f b → a ≡ b
@@ -99,6 +102,15 @@ unfolding parsedOf
 form-back (Form h start) = refl
 form-back Malformed = refl
 
+namedOf : Naming → Named
+namedOf (names x) = Is x
+namedOf (namesNone sw) = Nothing
+
+named-back : (a : Named) → namedOf (naming a) ≡ a
+unfolding namedOf
+named-back (Is x) = refl
+named-back Nothing = refl
+
 pub told-apart : ToldApart
 told-apart =
     record {
@@ -108,4 +120,5 @@ told-apart =
       faults = apart faultNumber (λ n. faultIn (loadOf n)) fault-back;
       loads = apart loadNumber loadOf load-back;
       forms = apart lengthForm parsedOf form-back;
+      names = apart naming namedOf named-back;
     }

@@ -19,11 +19,10 @@ use Rattle.rules.specs.declared.Command.the-variants.{Select, ReadRecord
 use Rattle.rules.specs.declared.Command.the-variants.{ResetRetry, SetEnvironment, ChooseKey, InternalAuthenticate}
 use Rattle.rules.specs.declared.Command.the-variants.{ComputeSignature, Decipher}
 use Rattle.rules.specs.declared.Header.{Header}
-use Rattle.rules.specs.declared.Named.{Named}
 use Rattle.rules.specs.declared.Profile.{Profile}
 use Rattle.rules.specs.declared.Session.{Session}
 use Rattle.rules.specs.declared.Verdict.the-variants.{Right, Wrong}
-use Rattle.rules.specs.Numbers.{Returned, LengthForm, form, refused}
+use Rattle.rules.specs.Numbers.{Returned, LengthForm, form, refused, Naming}
 use Rattle.rules.specs.Codes.{PUK, PIN1, PIN2, value, storing, marked, codeOf, withCode, closed}
 use Rattle.rules.specs.Apdu.{parse, dataOf}
 use Rattle.rules.specs.Session.{dropBoth}
@@ -32,7 +31,7 @@ use Rattle.rules.specs.Answers.{Answer, Step, SessionStep, response, job
 use Rattle.rules.specs.Answers.{inCodes, give}
 use Rattle.rules.specs.FileCommands.{select, readRecord, readBinary, getResponse}
 use Rattle.rules.specs.KeyCommands.{setEnvironment, chooseKey, internalAuthenticate, sign, decipher}
-use Rattle.rules.specs.CodeCommands.{notAllowed, hasTries, judged, verify, newValue, change, unblockByVerifiedPuk}
+use Rattle.rules.specs.CodeCommands.{swNotAllowed, swHasTries, judged, verify, newValue, change, unblockByVerifiedPuk}
 use Rattle.rules.specs.CodeCommands.{unblockByPresentedPuk, resetRetry}
 use Rattle.rules.specs.Judgement.{commands, instruction, parameters, hasData, lengths, ownRules, refusal}
 use Rattle.rules.specs.Judgement.{knownClass, knownInstruction, badChaining, judgeNamed, judgeHeader, judgeForm}
@@ -499,7 +498,7 @@ module _ (k : ℕ) (h3 : k < 3) (c : Card) (g : goodCodes (c .codes) ≡ true) (
         replaced-walk T cs j j new codes _
         (λ _. turned-down 0x6983 refl refl)
         (λ some other. wrong-sheet j few (change-presents j ∙ eq-eqb j j refl) (λ m n. change-presents m ∙ ne-eqb j m (λ e. n (sym e))) some (rw (i, size) other))
-        (turned-down notAllowed refl refl)
+        (turned-down swNotAllowed refl refl)
         (λ some right a. either (T (codeStatus codes 0x9000)) k j
         (λ e.
         let now : codeOf codes k ≡ v = same-code cs j v few refl e in
@@ -616,7 +615,7 @@ module _ (k : ℕ) (h3 : k < 3) (c : Card) (g : goodCodes (c .codes) ≡ true) (
         replaced-walk T cs PUK j new both _
         (λ _. turned-down 0x6983 refl refl)
         (λ some other. wrong-sheet PUK (omega arith) (puk-presents PUK ∙ rw q) (λ m n. puk-presents m ∙ rw (ne-eqb m PUK n)) some (rw (i, size) other))
-        (turned-down notAllowed refl refl)
+        (turned-down swNotAllowed refl refl)
         (λ some right a. unblocked-done (rw q) blocked puk-shown both
         (λ e.
         let now : codeOf both k ≡ v = other-code first PUK u (omega arith) sized (omega arith) ∙ same-code cs j v few refl e in
@@ -631,7 +630,7 @@ module _ (k : ℕ) (h3 : k < 3) (c : Card) (g : goodCodes (c .codes) ≡ true) (
     resetRetry-sheet : (eqb (h .p1) 0x00 || eqb (h .p1) 0x03) ≡ true → T (resetRetry cs h d)
     unfolding okStatus wrongStatus
     resetRetry-sheet q =
-        resetRetry-walk T cs h d (turned-down hasTries refl refl)
+        resetRetry-walk T cs h d (turned-down swHasTries refl refl)
         (λ blocked t. verified-puk-sheet t blocked)
         (λ blocked f. presented-puk-sheet (eqb-true (h .p1) 0x00 (sym (or-false _) ∙ rw f at q)) blocked)
 
@@ -695,7 +694,7 @@ module _ (k : ℕ) (h3 : k < 3) (c : Card) (g : goodCodes (c .codes) ≡ true) (
   own-sheet ComputeSignature i q l = sign-sheet i
   own-sheet Decipher i q l = session-sheet (rw i) (rw i) (rw i) _ (decipher-permitted cs (c .profile .references) _ h d)
 
-  named-sheet : {n : Named} → Found h n → S (judgeNamed n c h d auth sig)
+  named-sheet : {n : Naming} → Found h n → S (judgeNamed n c h d auth sig)
   unfolding judgeNamed okStatus wrongStatus
   named-sheet nothing = turned-down 0x6A86 refl refl
   named-sheet (is o fits) =

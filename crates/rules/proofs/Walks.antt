@@ -28,10 +28,10 @@ use Rattle.rules.specs.Files.{filesIn, certificateFile, certificateOf, r
 use Rattle.rules.specs.Answers.{Step, SessionStep, response, codeStatus, sessionStatus, status, inSession}
 use Rattle.rules.specs.Answers.{moreBytes, give, handOut}
 use Rattle.rules.specs.FileCommands.{select, readRecord, readBinary, getResponse}
-use Rattle.rules.specs.CodeCommands.{notAllowed, hasTries, verdict, judged, replaced, unblockByVerifiedPuk}
+use Rattle.rules.specs.CodeCommands.{swNotAllowed, swHasTries, verdict, judged, replaced, unblockByVerifiedPuk}
 use Rattle.rules.specs.CodeCommands.{unblockByPresentedPuk, resetRetry}
 use Rattle.rules.specs.Digests.{isDigest}
-use Rattle.rules.specs.KeyCommands.{withoutPin, setEnvironment, kindChosen, choosing, namesKey, chooseKey, jobKey}
+use Rattle.rules.specs.KeyCommands.{swWithoutPin, setEnvironment, kindChosen, choosing, namesKey, chooseKey, jobKey}
 use Rattle.rules.specs.KeyCommands.{internalAuthenticate, sign, decipher}
 use Rattle.rules.specs.Delivery.{deliver}
 
@@ -127,7 +127,7 @@ module _ (P : SessionStep → Type 0) (s : Session) where
   unfolding internalAuthenticate
   authenticate-walk codes references h d none handed =
       split P (not (eqb (s .environment .number) 1)) (λ _. none 0x6985 refl)
-      (λ _. split P (not (codeOf codes PIN1 .verified)) (λ _. none withoutPin refl)
+      (λ _. split P (not (codeOf codes PIN1 .verified)) (λ _. none swWithoutPin refl)
       (λ e. handed (not-false _ e)))
 
   pub decipher-walk : (codes : List Code) (references : Bytes) (h : Header) (d : Bytes)
@@ -144,7 +144,7 @@ module _ (P : SessionStep → Type 0) (s : Session) where
       (λ _. split P (not (eqb (length joined) 257)) (λ _. none 0x6700 refl)
       (λ whole. split P (not (eqb (byteAt joined 0) 0x00)) (λ _. none 0x6A80 refl)
       (λ _. split P (not (eqb (s .environment .number) 6)) (λ _. none 0x6985 refl)
-      (λ _. split P (not (codeOf codes PIN1 .verified)) (λ _. none withoutPin refl)
+      (λ _. split P (not (codeOf codes PIN1 .verified)) (λ _. none swWithoutPin refl)
       (λ e. handed (eqb-true _ _ (not-false _ whole)) (not-false _ e)))))))
 
   pub deliver-walk : (result : Bytes)
@@ -172,7 +172,7 @@ unfolding sign
 sign-walk P codes references s h d none handed =
     split P (not (isDigest d)) (λ _. none 0x6A80 refl)
     (λ digest. split P (not (eqb (s .environment .number) 1)) (λ _. none 0x6985 refl)
-    (λ _. split P (not (codeOf codes PIN2 .verified)) (λ _. none withoutPin refl)
+    (λ _. split P (not (codeOf codes PIN2 .verified)) (λ _. none swWithoutPin refl)
     (λ e. handed (not-false _ digest) (not-false _ e))))
 
 -- A presented value judged.
@@ -191,7 +191,7 @@ verdict-walk P v presented none right wrong =
 pub replaced-walk : (P : CodeStep → Type 0) (codes : List Code) (k j : ℕ) (new : Bytes) (stored : List Code) (presented : Bytes)
     → (codeOf codes k .tries ≡ 0 → P (codeStatus codes 0x6983))
     → (1 ≤ codeOf codes k .tries → same presented (value (codeOf codes k)) ≡ false → P (judged codes k Wrong))
-    → P (codeStatus codes notAllowed)
+    → P (codeStatus codes swNotAllowed)
     → (1 ≤ codeOf codes k .tries → same presented (value (codeOf codes k)) ≡ true → allowed j new ≡ true → P (codeStatus stored 0x9000))
     → P (replaced codes k j new stored (verdict (codeOf codes k) presented))
 unfolding replaced judged
@@ -210,7 +210,7 @@ unfolding unblockByVerifiedPuk
 verifiedPuk-walk P codes pin none done = split P (not (codeOf codes PUK .verified)) (λ _. none) (λ e. done (not-false _ e))
 
 pub resetRetry-walk : (P : CodeStep → Type 0) (codes : List Code) (h : Header) (d : Bytes)
-    → P (codeStatus codes hasTries)
+    → P (codeStatus codes swHasTries)
     → (codeOf codes (h .p2) .tries ≡ 0 → h .p1 ≡ 0x03 → P (unblockByVerifiedPuk codes (h .p2)))
     → (codeOf codes (h .p2) .tries ≡ 0 → eqb (h .p1) 0x03 ≡ false → P (unblockByPresentedPuk codes (h .p2) d))
     → P (resetRetry codes h d)

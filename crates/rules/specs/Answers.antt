@@ -17,7 +17,7 @@ pub data Answer : Type 0 where
   response : Bytes → ℕ → Answer
   job : ℕ → ℕ → Bytes → Answer
 
--- The codes and the session after a command, and its answer. What else the card has no command changes.
+-- The codes and the session after a command, and its answer. No command changes the rest of the card.
 pub record Step : Type 0 where
   pub codes : List Code
   pub session : Session
@@ -28,7 +28,8 @@ pub record SessionStep : Type 0 where
   pub session : Session
   pub answer : Answer
 
--- A command that changes nothing but the session; one that changes nothing but the codes and answers by a status word alone (`CodeStep`).
+-- A command that changes nothing but the session; one that changes nothing but the codes and answers by a status word alone
+-- (`CodeStep`).
 abbrev pub inSession : List Code → SessionStep → Step
 inSession codes o = record { codes = codes; session = o .session; answer = o .answer }
 

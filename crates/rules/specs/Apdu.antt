@@ -15,7 +15,7 @@ leOf x = cond (eqb x 0x00) 256 x
 abbrev pub header : Bytes → ℕ → ℕ → Header
 header b lc le = record { cla = byteAt b 0; ins = byteAt b 1; p1 = byteAt b 2; p2 = byteAt b 3; lc = lc; le = le }
 
--- Lc, in byte 5, which is place 4 from zero; the data start behind it.
+-- Lc, in byte 5, which is place 4 from zero; the data, if there are any, start behind it.
 abbrev pub lcByte : Bytes → ℕ
 lcByte b = byteAt b 4
 

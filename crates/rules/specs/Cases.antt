@@ -12,18 +12,16 @@ use Rattle.rules.specs.Numbers.{Returned, edge, responded, handedOut, wa
 use Rattle.rules.specs.Codes.{PUK, PIN1, PIN2, codeOf}
 use Rattle.rules.specs.Digests.{sha1Prefix}
 use Rattle.rules.specs.Counting.{Call, Command, Delivery, PowerReset, trace, after, returnedStatus}
-use Rattle.rules.specs.Image.{load}
 use Rattle.rules.specs.Sample.{sampleCard, pin1, pin2}
 
 -- What is seen of a call: response data and status word; a job's kind, key and block; an edge refusal's number; or a reset.
--- Of a code afterwards: its number, tries and mark. Of load: its number. Of padding: its answer, and how many bytes FF stand after 00 01.
+-- Of a code afterwards: its number, tries and mark. Of padding: its answer, and how many bytes FF stand after 00 01.
 pub data Seen : Type 0 where
   shows : Bytes → ℕ → Seen
   hands : ℕ → ℕ → Bytes → Seen
   refuses : ℕ → Seen
   isReset : Seen
   code : ℕ → ℕ → Bool → Seen
-  loads : ℕ → Seen
   pads : ℕ → ℕ → Seen
 
 abbrev pub seenOf : Returned → Bytes → Seen
@@ -43,10 +41,6 @@ onCard c calls =
 
 abbrev pub onSample : List Call → List Seen
 onSample = onCard sampleCard
-
--- The number of load.
-unfoldable pub loading : Bytes → List Seen
-loading image = loads (load image .0) ∷ []
 
 -- How many bytes FF a string starts with.
 abbrev pub countFF : Bytes → ℕ

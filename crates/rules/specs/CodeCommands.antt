@@ -15,11 +15,11 @@ use Rattle.rules.specs.Codes.{PUK, fullTries, allowed, value, storing, m
 use Rattle.rules.specs.Answers.{codeStatus}
 
 -- A new value not of allowed length or not digits: 6A80. Unblocking a PIN that has tries: 6A86.
-abbrev pub notAllowed : ℕ
-notAllowed = 0x6A80
+abbrev pub swNotAllowed : ℕ
+swNotAllowed = 0x6A80
 
-abbrev pub hasTries : ℕ
-hasTries = 0x6A86
+abbrev pub swHasTries : ℕ
+swHasTries = 0x6A86
 
 -- A presented value is judged: no tries; right; wrong, by value or by length.
 unfoldable pub verdict : Code → Bytes → Verdict
@@ -51,7 +51,7 @@ newValue codes k d = drop (codeOf codes k .len) d
 -- The value of code k was judged, and a new value for code j stands behind it. Wrong or no tries: as VERIFY. Right, and the new value not
 -- of allowed length or not digits: 6A80, codes unchanged. Else the codes with the new value stored, and 9000.
 unfoldable pub replaced : List Code → ℕ → ℕ → Bytes → List Code → Verdict → CodeStep
-replaced codes k j new stored Right = cond (not (allowed j new)) (codeStatus codes notAllowed) (codeStatus stored 0x9000)
+replaced codes k j new stored Right = cond (not (allowed j new)) (codeStatus codes swNotAllowed) (codeStatus stored 0x9000)
 replaced codes k j new stored Wrong = judged codes k Wrong
 replaced codes k j new stored NoTries = judged codes k NoTries
 
@@ -79,6 +79,6 @@ unblockByPresentedPuk codes pin d =
 unfoldable pub resetRetry : List Code → Header → Bytes → CodeStep
 resetRetry codes h d =
     let pin = h .p2 in
-    cond (not (eqb (codeOf codes pin .tries) 0)) (codeStatus codes hasTries)
+    cond (not (eqb (codeOf codes pin .tries) 0)) (codeStatus codes swHasTries)
     (cond (eqb (h .p1) 0x03) (unblockByVerifiedPuk codes pin)
     (unblockByPresentedPuk codes pin d))

@@ -28,12 +28,12 @@ bufferOf (Command apdu authentication signature buffer) = buffer
 bufferOf (Delivery result buffer) = buffer
 bufferOf PowerReset = []
 
--- A buffer that is long enough, and a certificate that is neither empty nor too long.
+-- A buffer that is long enough; a certificate that is neither empty nor too long.
 abbrev pub Room : Bytes → Type 0
 Room buffer = 258 ≤ length buffer
 
-abbrev pub Lent : Bytes → Type 0
-Lent certificate = (1 ≤ length certificate) × (length certificate ≤ 1536)
+abbrev pub LengthFits : Bytes → Type 0
+LengthFits certificate = (1 ≤ length certificate) × (length certificate ≤ 1536)
 
 -- Whether no job waits on a card.
 abbrev pub Idle : Card → Type 0
@@ -46,16 +46,16 @@ pub data Due (c : Card) : Call → ℕ → Type 0 where
       → Due c (Command apdu authentication signature buffer) 2
   deliveryBuffer : (result buffer : Bytes) → good c ≡ true → length buffer < 258 → Due c (Delivery result buffer) 2
   authenticationCertificate : (apdu authentication signature buffer : Bytes) → good c ≡ true → Room buffer
-      → ¬ Lent authentication → Due c (Command apdu authentication signature buffer) 3
+      → ¬ LengthFits authentication → Due c (Command apdu authentication signature buffer) 3
   signatureCertificate : (apdu authentication signature buffer : Bytes) → good c ≡ true → Room buffer
-      → ¬ Lent signature → Due c (Command apdu authentication signature buffer) 3
+      → ¬ LengthFits signature → Due c (Command apdu authentication signature buffer) 3
   jobWaiting : (apdu authentication signature buffer : Bytes) → good c ≡ true → Room buffer
-      → Lent authentication → Lent signature → ¬ Idle c → Due c (Command apdu authentication signature buffer) 4
+      → LengthFits authentication → LengthFits signature → ¬ Idle c → Due c (Command apdu authentication signature buffer) 4
   noJobWaiting : (result buffer : Bytes) → good c ≡ true → Room buffer → Idle c → Due c (Delivery result buffer) 5
 
 -- What each call can return at all.
 pub data Possible : Call → Returned → Type 0 where
-  refusal : (x : Call) (n : ℕ) → Possible x (edge n)
+  edgeRefusal : (x : Call) (n : ℕ) → Possible x (edge n)
   commandResponse : (apdu authentication signature buffer : Bytes) (n : ℕ) → 2 ≤ n → n ≤ 258
       → Possible (Command apdu authentication signature buffer) (responded n)
   commandJob : (apdu authentication signature buffer : Bytes) (kind key : ℕ) → 1 ≤ kind → kind ≤ 3
@@ -100,6 +100,11 @@ pub record Demand1 : Type 0 where
       → ((n : ℕ) → ¬ Due c (Command apdu authentication signature buffer) n)
       → (step c (Command apdu authentication signature buffer) .returned ≡ responded 2)
       × (step c (Command apdu authentication signature buffer) .buffer ≡ 0x67 ∷ 0x00 ∷ drop 2 buffer)
+  -- a delivered result whose length is wrong, and which the edge does not refuse, is answered 6400 alone
+  pub misdelivered : (c : Card) (result buffer : Bytes) → ¬ (length result ≡ 256)
+      → ((n : ℕ) → ¬ Due c (Delivery result buffer) n)
+      → (step c (Delivery result buffer) .returned ≡ responded 2)
+      × (step c (Delivery result buffer) .buffer ≡ 0x64 ∷ 0x00 ∷ drop 2 buffer)
 
 -- No call changes what load stored beside the codes: keys, the record of 0033h, personal records.
 abbrev pub ProfileKept : Type 0

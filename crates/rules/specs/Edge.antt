@@ -35,7 +35,7 @@ written buffer c (response d sw) = record { returned = responded (length d + 2);
 written buffer c (job kind key block) =
     record { returned = handedOut kind key; card = c; buffer = block ++ drop (length block) buffer }
 
--- The card after a step: what else it has no call changes.
+-- The card after a step. No call changes the rest of the card.
 abbrev pub cardAfter : Card → Step → Card
 cardAfter c o = record { codes = o .codes; profile = c .profile; session = o .session }
 

@@ -21,7 +21,8 @@ filesIn directory =
 abbrev pub certificateFile : ℕ → Bool
 certificateFile file = eqb file 0xAACE || eqb file 0xDDCE
 
--- The certificate that a certificate file shows, of the two that the command was lent: AACEh ↦ authentication, DDCEh (the last row) ↦ signature.
+-- The certificate that a certificate file shows, of the two that the command was lent: AACEh ↦ authentication, DDCEh (the
+-- last row) ↦ signature.
 unfoldable pub certificateOf : ℕ → Bytes → Bytes → Bytes
 certificateOf file authentication signature =
     cond (eqb file 0xAACE) authentication
@@ -46,7 +47,7 @@ counterRecord codes n =
 abbrev pub noRecord : Record
 noRecord = record { bytes = []; len = 0 }
 
--- 5044h: personal record n, from 1. Every rule reads a personal record through this definition.
+-- 5044h: personal record n, from 1. READ RECORD reads a personal record through this definition.
 unfoldable pub personalRecord : List Record → ℕ → Bytes
 personalRecord personal n = take (getD personal (n - 1) noRecord .len) (getD personal (n - 1) noRecord .bytes)
 

@@ -10,9 +10,7 @@ use Rattle.rules.specs.declared.Command.the-variants.{Select, ReadRecord
 use Rattle.rules.specs.declared.Command.the-variants.{ResetRetry, SetEnvironment, ChooseKey, InternalAuthenticate}
 use Rattle.rules.specs.declared.Command.the-variants.{ComputeSignature, Decipher}
 use Rattle.rules.specs.declared.Header.{Header}
-use Rattle.rules.specs.declared.Named.{Named}
-use Rattle.rules.specs.declared.Named.the-variants.{Is, Nothing}
-use Rattle.rules.specs.Numbers.{LengthForm, form, refused}
+use Rattle.rules.specs.Numbers.{LengthForm, form, refused, Naming, names, namesNone}
 use Rattle.rules.specs.Apdu.{parse, dataOf}
 use Rattle.rules.specs.Session.{dropHeld, dropChain, dropBoth}
 use Rattle.rules.specs.Answers.{Step, status, inSession, inCodes}
@@ -93,7 +91,7 @@ lengths ComputeSignature h = hasData h
 lengths Decipher h = hasData h
 
 -- The own rules of each. Every call except a GET RESPONSE that yields data drops the held answer; every one except a 2A 80 86 that
--- passes 1 to 6 drops the chain. GET RESPONSE and 2A 80 86 drop the rest by their own rules.
+-- passes 1 to 6 drops the chain. So GET RESPONSE gets the held answer and 2A 80 86 the chain, and their own rules say what becomes of it.
 unfoldable pub ownRules : Command → Card → Header → Bytes → Bytes → Bytes → Step
 ownRules Select c h d authentication signature = inSession (c .codes) (select (dropBoth (c .session)) h d)
 ownRules ReadRecord c h d authentication signature = inSession (c .codes) (readRecord (c .codes) (c .profile) (dropBoth (c .session)) h)
@@ -126,17 +124,17 @@ knownInstruction h = member (h .ins) (map instruction commands)
 abbrev pub badChaining : Header → Bool
 badChaining h = eqb (h .cla) 0x10 && not (eqb (h .ins) 0x2A && eqb (h .p1) 0x80 && eqb (h .p2) 0x86)
 
--- 5. P1, P2: the command of a list that the header names.
-unfoldable pub namedIn : Header → List Command → Named
-namedIn h [] = Nothing
+-- 5. P1, P2, else 6A86: the command of a list that the header names.
+unfoldable pub namedIn : Header → List Command → Naming
+namedIn h [] = namesNone 0x6A86
 namedIn h (x ∷ xs) =
-    cond (eqb (h .ins) (instruction x) && parameters x (h .p1) (h .p2)) (Is x)
+    cond (eqb (h .ins) (instruction x) && parameters x (h .p1) (h .p2)) (names x)
     (namedIn h xs)
 
--- 5, else 6A86. 6. Data and Le presence and lengths, else 6700. 7. The command's own rules.
-unfoldable pub judgeNamed : Named → Card → Header → Bytes → Bytes → Bytes → Step
-judgeNamed Nothing c h d authentication signature = refusal c 0x6A86
-judgeNamed (Is x) c h d authentication signature =
+-- 6. Data and Le presence and lengths, else 6700. 7. The command's own rules.
+unfoldable pub judgeNamed : Naming → Card → Header → Bytes → Bytes → Bytes → Step
+judgeNamed (namesNone sw) c h d authentication signature = refusal c sw
+judgeNamed (names x) c h d authentication signature =
     cond (not (lengths x h)) (refusal c 0x6700)
     (ownRules x c h d authentication signature)
 

@@ -19,8 +19,8 @@ use Rattle.rules.specs.Answers.{Step, SessionStep, inSession, status, se
 use Rattle.rules.specs.Digests.{isDigest}
 
 -- A key operation without its PIN: 6982.
-abbrev pub withoutPin : ℕ
-withoutPin = 0x6982
+abbrev pub swWithoutPin : ℕ
+swWithoutPin = 0x6982
 
 -- 22 F3. Environment P2, 1 or 6, else 6A88; all choices become "active".
 unfoldable pub setEnvironment : Session → Header → SessionStep
@@ -63,7 +63,7 @@ unfoldable pub internalAuthenticate : List Code → Bytes → Session → Header
 internalAuthenticate codes references s h d =
     let kind = kindNumber Authenticate in
     cond (not (eqb (s .environment .number) 1)) (sessionStatus s 0x6985)
-    (cond (not (codeOf codes PIN1 .verified)) (sessionStatus s withoutPin)
+    (cond (not (codeOf codes PIN1 .verified)) (sessionStatus s swWithoutPin)
     (handOut s kind (jobKey references s kind) (h .le) (padded d)))
 
 -- 2A 9E 9A SIGN. Not a digest of the list 6A80; environment not 1: 6985; PIN2 not verified 6982.
@@ -73,7 +73,7 @@ sign codes references s h d =
     let kind = kindNumber Sign in
     cond (not (isDigest d)) (status codes s 0x6A80)
     (cond (not (eqb (s .environment .number) 1)) (status codes s 0x6985)
-    (cond (not (codeOf codes PIN2 .verified)) (status codes s withoutPin)
+    (cond (not (codeOf codes PIN2 .verified)) (status codes s swWithoutPin)
     (inSession (closed codes PIN2) (handOut s kind (jobKey references s kind) (h .le) (padded d)))))
 
 -- 2A 80 86 DECIPHER of class 00h, once 257 bytes are joined: first byte not 00, 6A80; environment not 6: 6985; PIN1 not verified 6982;
@@ -84,7 +84,7 @@ decipherWhole codes references s h joined =
     let emptied = dropChain s in
     cond (not (eqb (byteAt joined 0) 0x00)) (sessionStatus emptied 0x6A80)
     (cond (not (eqb (s .environment .number) 6)) (sessionStatus emptied 0x6985)
-    (cond (not (codeOf codes PIN1 .verified)) (sessionStatus emptied withoutPin)
+    (cond (not (codeOf codes PIN1 .verified)) (sessionStatus emptied swWithoutPin)
     (handOut emptied kind (jobKey references s kind) (h .le) (drop 1 joined))))
 
 -- 2A 80 86 DECIPHER joins the chain. Over 257: 6700. Class 10h: 9000. Class 00h (the last two rows): total not 257, 6700; else the whole is

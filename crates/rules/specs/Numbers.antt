@@ -1,8 +1,12 @@
--- Document 01, "How tight the promises are": "Where an answer is an enum, a definition sets out this paper's number and values for each of its
--- cases." One definition for each enum of the code. The promises of the code go through them; the rules speak of the numbers alone.
+-- Document 01, "Code places and language forms": "Where an answer is an enum, a definition sets out this paper's number and
+-- values for each of its cases. The promises use that definition." One definition for each enum that a public function of the
+-- card answers. Of replies, refusals, faults and length forms the rules know the numbers alone.
 use Prim.Native.Nat.{ℕ}
 use mathlib.Core.Path.{_≡_}
+use Rattle.rules.specs.declared.Command.{Command}
 use Rattle.rules.specs.declared.Header.{Header}
+use Rattle.rules.specs.declared.Named.{Named}
+use Rattle.rules.specs.declared.Named.the-variants.{Is, Nothing}
 use Rattle.rules.specs.declared.Parsed.{Parsed}
 use Rattle.rules.specs.declared.Parsed.the-variants.{Form, Malformed}
 use Rattle.rules.specs.declared.JobKind.{JobKind}
@@ -60,7 +64,7 @@ abbrev pub loadNumber : LoadResult → ℕ
 loadNumber Accepted = 0
 loadNumber (Faulty f) = faultNumber f
 
--- What the length form of a command gives: its header and where its data starts, or the status word that refuses it.
+-- What the length form of a command gives: its header and where its data would start, or the status word that refuses it.
 pub data LengthForm : Type 0 where
   form : Header → ℕ → LengthForm
   refused : ℕ → LengthForm
@@ -68,6 +72,15 @@ pub data LengthForm : Type 0 where
 abbrev pub lengthForm : Parsed → LengthForm
 lengthForm (Form h start) = form h start
 lengthForm Malformed = refused 0x6700
+
+-- What a header names: a command, whose numbers are its rows in Judgement.antt, or none, with the status word for that.
+pub data Naming : Type 0 where
+  names : Command → Naming
+  namesNone : ℕ → Naming
+
+abbrev pub naming : Named → Naming
+naming (Is x) = names x
+naming Nothing = namesNone 0x6A86
 
 -- They lose nothing: no two cases of an enum have the same number or value.
 pub record ToldApart : Type 0 where
@@ -77,3 +90,4 @@ pub record ToldApart : Type 0 where
   pub faults : (a b : Fault) → faultNumber a ≡ faultNumber b → a ≡ b
   pub loads : (a b : LoadResult) → loadNumber a ≡ loadNumber b → a ≡ b
   pub forms : (a b : Parsed) → lengthForm a ≡ lengthForm b → a ≡ b
+  pub names : (a b : Named) → naming a ≡ naming b → a ≡ b

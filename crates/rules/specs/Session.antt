@@ -24,7 +24,7 @@ abbrev pub allActive : List ℕ
 allActive = 0 ∷ 0 ∷ 0 ∷ []
 
 -- "Held answer" and "chain" are document 01's terms: response data that waits for GET RESPONSE, and the joined parts of a DECIPHER.
--- The chain has 258 places, of which at most 257 are used.
+-- The chain has one place more than the 257 bytes that it can have; it stays empty, and the card has no padding.
 abbrev pub holding : Bytes → Held
 holding d = record { bytes = filled 256 d; len = length d }
 

@@ -1,0 +1,12 @@
+-- Jobs wait, and empty records are read, as the cases expect.
+use mathlib.Core.Path.{refl}
+use Rattle.cases.specs.WaitingCases.{waitingJobs, JobsWait, emptyRecords, EmptyRecordsShown}
+use Rattle.cases.proofs.Rules.{rules}
+
+pub jobs-wait : JobsWait
+unfolding rules waitingJobs
+jobs-wait = refl
+
+pub empty-records-shown : EmptyRecordsShown
+unfolding rules emptyRecords
+empty-records-shown = refl

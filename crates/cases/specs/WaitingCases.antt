@@ -1,0 +1,61 @@
+-- Document 01, "What the card has": the waiting job with its Le. A job waits as it was handed out: its kind, its key and its Le.
+-- And docs/DECISIONS.md: an empty personal record, which no image gives, is 9000 alone.
+use Prim.Native.Nat.{ℕ}
+use mathlib.Core.Path.{_≡_}
+use mathlib.Core.List.{List, [], _∷_, _++_, map}
+use lib.ListN.{replicate, set}
+use Rattle.rules.specs.declared.Card.{Card}
+use Rattle.rules.specs.declared.Job.{Job}
+use Rattle.rules.specs.Session.{esteidDirectory}
+use Rattle.rules.specs.Counting.{Call, after}
+use Rattle.rules.specs.Sample.{sampleCard}
+use Rattle.rules.specs.Cases.{signSha1, sha1Digest, chooseKeyOf, decipherPart, sw, fresh}
+use Rattle.cases.specs.Turns.{Run, _⇒_, from, Shown, bare, sendingWithLe, secondOpen, at, inEnvironment, chained}
+use Rattle.cases.specs.Turns.{readRecord}
+
+-- The job that waits after some calls.
+abbrev pub waitingAfter : Card → List Call → Job
+waitingAfter c calls = after c calls .session .job
+
+abbrev pub job : ℕ → ℕ → ℕ → Job
+job kind key le = record { kind = kind; key = key; le = le }
+
+unfoldable pub waitingJobs : List Job
+waitingJobs =
+    -- 88 with Le 00, with the active key 1200h and with 1100h chosen
+    waitingAfter secondOpen (sendingWithLe 0x88 0x00 0x00 (0x41 ∷ []) 0x00 ∷ [])
+    ∷ waitingAfter secondOpen (chooseKeyOf 0xA4 0x11 0x00 ∷ sendingWithLe 0x88 0x00 0x00 (0x41 ∷ []) 0x00 ∷ [])
+    -- SIGN without Le and with Le FF, with the active key 0200h and with 0100h chosen
+    ∷ waitingAfter secondOpen (signSha1 ∷ [])
+    ∷ waitingAfter secondOpen (chooseKeyOf 0xB6 0x01 0x00 ∷ sendingWithLe 0x2A 0x9E 0x9A sha1Digest 0xFF ∷ [])
+    -- DECIPHER without Le, with the active key 1200h and with 1100h chosen
+    ∷ waitingAfter (chained 255 (inEnvironment 6 secondOpen)) (decipherPart 0x00 2 ∷ [])
+    ∷ waitingAfter (inEnvironment 6 secondOpen) (chooseKeyOf 0xB8 0x11 0x00 ∷ decipherPart 0x10 255 ∷ decipherPart 0x00 2 ∷ [])
+    ∷ []
+
+abbrev pub JobsWait : Type 0
+JobsWait =
+    waitingJobs
+    ≡ job 1 0x1200 256 ∷ job 1 0x1100 256 ∷ job 2 0x0200 0 ∷ job 2 0x0100 255 ∷ job 3 0x1200 0 ∷ job 3 0x1100 0 ∷ []
+
+-- The sample card in 5044h, with no byte in its second record.
+abbrev pub emptyRecord : Card
+emptyRecord =
+    record {
+      codes = sampleCard .codes;
+      profile = record {
+        keys = sampleCard .profile .keys;
+        references = sampleCard .profile .references;
+        personal = set (sampleCard .profile .personal) 1 (record { bytes = replicate 64 0x00; len = 0 });
+      };
+      session = at esteidDirectory 0x5044 sampleCard .session;
+    }
+
+unfoldable pub emptyRecords : List Run
+emptyRecords =
+    -- B2 of an empty record, with Le and without
+    from emptyRecord (readRecord 2 ⇒ sw 0x9000 ∷ bare 0xB2 0x02 0x04 ⇒ sw 0x9000 ∷ []) fresh
+    ∷ []
+
+abbrev pub EmptyRecordsShown : Type 0
+EmptyRecordsShown = Shown emptyRecords
