@@ -1,11 +1,15 @@
 -- Jobs wait, and empty records are read, as the cases expect.
 use mathlib.Core.Path.{refl}
-use Rattle.cases.specs.WaitingCases.{waitingJobs, JobsWait, emptyRecords, EmptyRecordsShown}
+use Rattle.cases.specs.WaitingCases.{waitingJobs, JobsWait, signatureKinds, SignaturesTold, emptyRecords, EmptyRecordsShown}
 use Rattle.cases.proofs.Rules.{rules}
 
 pub jobs-wait : JobsWait
 unfolding rules waitingJobs
 jobs-wait = refl
+
+pub signatures-told : SignaturesTold
+unfolding rules signatureKinds
+signatures-told = refl
 
 pub empty-records-shown : EmptyRecordsShown
 unfolding rules emptyRecords

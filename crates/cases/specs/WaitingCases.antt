@@ -1,13 +1,16 @@
 -- Document 01, "What the card has": the waiting job with its Le. A job waits as it was handed out: its kind, its key and its Le.
--- And docs/DECISIONS.md: an empty personal record, which no image gives, is 9000 alone.
+-- Of the jobs handed out, those of kind 2 are signatures. And docs/DECISIONS.md: an empty personal record, which no image gives,
+-- is 9000 alone.
 use Prim.Native.Nat.{ℕ}
 use mathlib.Core.Path.{_≡_}
-use mathlib.Core.List.{List, [], _∷_, _++_, map}
+use mathlib.Core.Bool.{Bool, true, false}
+use mathlib.Core.List.{List, [], _∷_, map}
 use lib.ListN.{replicate, set}
 use Rattle.rules.specs.declared.Card.{Card}
 use Rattle.rules.specs.declared.Job.{Job}
 use Rattle.rules.specs.Session.{esteidDirectory}
-use Rattle.rules.specs.Counting.{Call, after}
+use Rattle.rules.specs.Numbers.{handedOut}
+use Rattle.rules.specs.Counting.{Call, after, handsSignature}
 use Rattle.rules.specs.Sample.{sampleCard}
 use Rattle.rules.specs.Cases.{signSha1, sha1Digest, chooseKeyOf, decipherPart, sw, fresh}
 use Rattle.cases.specs.Turns.{Run, _⇒_, from, Shown, bare, sendingWithLe, secondOpen, at, inEnvironment, chained}
@@ -37,6 +40,14 @@ abbrev pub JobsWait : Type 0
 JobsWait =
     waitingJobs
     ≡ job 1 0x1200 256 ∷ job 1 0x1100 256 ∷ job 2 0x0200 0 ∷ job 2 0x0100 255 ∷ job 3 0x1200 0 ∷ job 3 0x1100 0 ∷ []
+
+-- Which of three jobs handed out, of kinds 1, 2 and 3, are signatures.
+unfoldable pub signatureKinds : List Bool
+signatureKinds =
+    map (λ kind. handsSignature (record { call = signSha1; returned = handedOut kind 0x0100; buffer = [] })) (1 ∷ 2 ∷ 3 ∷ [])
+
+abbrev pub SignaturesTold : Type 0
+SignaturesTold = signatureKinds ≡ false ∷ true ∷ false ∷ []
 
 -- The sample card in 5044h, with no byte in its second record.
 abbrev pub emptyRecord : Card
