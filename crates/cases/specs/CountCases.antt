@@ -116,15 +116,15 @@ tallies =
           ∷ [];
       are = 0 ∷ 0 ∷ 0 ∷ 0 ∷ 0 ∷ 0 ∷ 0 ∷ 0 ∷ 0 ∷ 2 ∷ [];
     }
-    -- nothing else counts: a VERIFY without data, 9000 to other commands, to a delivery and to an empty command, a
-    -- reset
+    -- nothing else counts: a VERIFY without data; 9000 to other commands, to an empty one, and to a delivery of the
+    -- bytes of a VERIFY; a reset
     ∷ record {
       exchanges =
           answered (bare 0x20 0x00 PIN2) 0x90 0x00
           ∷ answered (bare 0x20 0x00 PIN2) 0x63 0xC2
           ∷ answered (bare 0xA4 0x00 0x0C) 0x90 0x00
           ∷ answered (sending 0x22 0x41 0xA4 (0x83 ∷ 0x00 ∷ [])) 0x90 0x00
-          ∷ answered (deliverTo []) 0x90 0x00
+          ∷ answered (deliverTo (0x00 ∷ 0x20 ∷ 0x00 ∷ PIN2 ∷ 0x05 ∷ fives 5)) 0x90 0x00
           ∷ answered (send []) 0x90 0x00
           ∷ record { call = PowerReset; returned = wasReset; buffer = [] }
           ∷ [];
