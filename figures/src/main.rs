@@ -1,27 +1,32 @@
-//! figures TRANSCRIPT SECOND-TRANSCRIPT FOLDER: measures, and prints the report.
+//! figures TRANSCRIPT SECOND-TRANSCRIPT AUTH.der SIGN.der FOLDER: measures, and prints the report.
 
 mod goals;
 mod padding;
+mod profile;
+mod programs;
 mod transcripts;
 
 use goals::Goals;
+use programs::Program;
 use std::path::Path;
 
 const TOP: &str = "\
 # Figures
 
-Written by `figures/measure`, all in one run on one machine. Ratios, since times differ from machine to machine.
+Written by `figures/measure`, all in one run on one machine. The ratios are what counts; the times beside them differ from machine to machine.
 ";
 
 fn main() -> std::io::Result<()> {
     let arguments: Vec<String> = std::env::args().skip(1).collect();
-    let [transcript, second, folder] = &arguments[..] else {
-        eprintln!("usage: figures TRANSCRIPT SECOND-TRANSCRIPT FOLDER");
+    let [transcript, second, authentication, signature, folder] = &arguments[..] else {
+        eprintln!("usage: figures TRANSCRIPT SECOND-TRANSCRIPT AUTH.der SIGN.der FOLDER");
         std::process::exit(2);
     };
+    let transcript = Program { path: transcript.clone(), arguments: vec![] };
+    let second = Program { path: second.clone(), arguments: vec![authentication.clone(), signature.clone()] };
     let mut goals = Goals::default();
     println!("{TOP}\nProcessor: {}.", processor());
-    transcripts::measure(transcript, second, Path::new(folder), &mut goals)?;
+    transcripts::measure(&transcript, &second, Path::new(folder), &mut goals)?;
     padding::measure(&mut goals);
     goals.print();
     Ok(())

@@ -1,10 +1,9 @@
-//! A generator of transcript lines. It plays each line on a session of its own,
-//! so that it knows the present codes, the waiting job and the held answer.
+//! A generator of lines. It plays each line on a session of its own, so that it
+//! knows the present codes, the waiting job and the held answer.
 
 use crate::card::digest_heads;
 use crate::state::{shortest_code, DECIPHER, PIN1, PIN2, PUK};
-use crate::transcript::Transcript;
-use crate::{hex, padding};
+use crate::{hex, padding, CardState};
 use std::collections::VecDeque;
 
 /// splitmix64
@@ -49,34 +48,38 @@ impl Random {
     }
 }
 
-pub struct Generator {
-    random: Random,
-    session: Transcript,
-    pending: VecDeque<Vec<u8>>,
-    made: usize,
-    total: usize,
-    /// Seeds 3, 7, 11, ... may block PUK at any time; others only near the end,
-    /// because nothing unblocks PUK.
-    reckless: bool,
+/// What lines are played on, with what is its own in making them.
+pub trait Played: Clone {
+    fn play(&mut self, line: &[u8]);
+    fn card(&self) -> &CardState;
+    /// Whether the line that leads to `after` is not to be given out.
+    fn holds_back(generator: &Generator<Self>, after: &Self) -> bool;
+    fn malformed(random: &mut Random) -> Vec<u8>;
+    /// One or a few lines in the midst of others.
+    fn interruption(generator: &mut Generator<Self>);
+    /// What comes, now and then, between a job and its result.
+    fn before_delivery(generator: &mut Generator<Self>);
+    /// A read of the current file.
+    fn read(generator: &mut Generator<Self>);
+    fn scenario(generator: &mut Generator<Self>);
 }
 
-impl Generator {
-    pub fn new(seed: u64, total: usize) -> Self {
-        Generator {
-            random: Random(seed),
-            session: Transcript::sample(),
-            pending: VecDeque::new(),
-            made: 0,
-            total,
-            reckless: seed % 4 == 3,
-        }
+pub struct Generator<S> {
+    pub(crate) random: Random,
+    pub(crate) session: S,
+    pub(crate) made: usize,
+    pending: VecDeque<Vec<u8>>,
+}
+
+impl<S: Played> Generator<S> {
+    pub(crate) fn on(session: S, seed: u64) -> Self {
+        Generator { random: Random(seed), session, made: 0, pending: VecDeque::new() }
     }
 
-    fn line(&mut self, line: Vec<u8>) {
+    pub(crate) fn line(&mut self, line: Vec<u8>) {
         let mut after = self.session.clone();
-        after.line(&line);
-        let protected = !self.reckless && self.made < self.total - self.total / 10;
-        if protected && after.card.codes[PUK].tries == 0 {
+        after.play(&line);
+        if S::holds_back(self, &after) {
             return;
         }
         self.session = after;
@@ -84,16 +87,16 @@ impl Generator {
         self.pending.push_back(line);
     }
 
-    fn call(&mut self, letter: u8, bytes: &[u8]) {
+    pub(crate) fn call(&mut self, letter: u8, bytes: &[u8]) {
         let mut line = vec![letter];
         line.extend(hex::encode(bytes).bytes());
         self.line(line);
     }
 
     /// A command line, now and then damaged or preceded by another line.
-    fn send(&mut self, class: u8, ins: u8, p1: u8, p2: u8, data: &[u8], le: Option<u8>) {
+    pub(crate) fn send(&mut self, class: u8, ins: u8, p1: u8, p2: u8, data: &[u8], le: Option<u8>) {
         if self.random.percent(3) {
-            self.interruption();
+            S::interruption(self);
         }
         let mut apdu = vec![class, ins, p1, p2];
         if !data.is_empty() {
@@ -129,7 +132,7 @@ impl Generator {
     }
 
     /// A single line that may drop a held answer or a chain, or do nothing.
-    fn interruption(&mut self) {
+    pub(crate) fn single_interruption(&mut self) {
         match self.random.below(7) {
             0 => self.line(b"P".to_vec()),
             1 => self.malformed(),
@@ -141,40 +144,18 @@ impl Generator {
         }
     }
 
-    fn malformed(&mut self) {
-        let r = &mut self.random;
-        let line: Vec<u8> = match r.below(14) {
-            0 => vec![],
-            1 => b"p".to_vec(),
-            2 => b"P ".to_vec(),
-            3 => b"P\r".to_vec(),
-            4 => b"C00a4000c".to_vec(),
-            5 => b"C00A4000".to_vec(),
-            6 => b"C 00A4000C".to_vec(),
-            7 => b"c00A4000C".to_vec(),
-            8 => format!("D{}", "0".repeat(r.pick(&[511, 513, 1023]))).into_bytes(),
-            9 => format!("{}{}", r.pick(&["C", "D"]), "0".repeat(r.pick(&[1022, 1024, 1026, 5000, 70_000]))).into_bytes(),
-            10 => "P".repeat(r.pick(&[2, 1024, 1025])).into_bytes(),
-            11 => {
-                let n = r.below(40);
-                r.bytes(n).into_iter().filter(|b| *b != b'\n').collect()
-            }
-            12 => b"C0G".to_vec(),
-            _ => {
-                let letter = r.pick(b"ABEHJRX? ");
-                vec![letter, b'0', b'0']
-            }
-        };
+    pub(crate) fn malformed(&mut self) {
+        let line = S::malformed(&mut self.random);
         self.line(line);
     }
 
-    fn maybe_le(&mut self) -> Option<u8> {
+    pub(crate) fn maybe_le(&mut self) -> Option<u8> {
         let le = self.random.byte();
         self.random.pick(&[None, Some(0), Some(0), Some(0), Some(1), Some(0xFF), Some(le)])
     }
 
-    fn stored(&self, code: usize) -> Vec<u8> {
-        self.session.card.codes[code].value.get().to_vec()
+    pub(crate) fn stored(&self, code: usize) -> Vec<u8> {
+        self.session.card().codes[code].value.get().to_vec()
     }
 
     /// A value for a code, the stored one with this chance.
@@ -214,24 +195,24 @@ impl Generator {
         new
     }
 
-    fn any_code(&mut self) -> usize {
+    pub(crate) fn any_code(&mut self) -> usize {
         self.random.pick(&[PUK, PIN1, PIN1, PIN2, PIN2])
     }
 
-    fn verify(&mut self, code: usize, right: usize) {
+    pub(crate) fn verify(&mut self, code: usize, right: usize) {
         let value = self.value(code, right);
         let le = self.random.pick(&[None, None, None, Some(0)]);
         self.send(0x00, 0x20, 0x00, code as u8, &value, le);
     }
 
-    fn change(&mut self) {
+    pub(crate) fn change(&mut self) {
         let code = self.any_code();
         let mut data = self.value(code, 75);
         data.extend(self.new_value(code));
         self.send(0x00, 0x24, 0x00, code as u8, &data, None);
     }
 
-    fn unblock(&mut self, pin: usize) {
+    pub(crate) fn unblock(&mut self, pin: usize) {
         if self.random.percent(45) {
             if self.random.percent(75) {
                 self.verify(PUK, 90);
@@ -248,7 +229,7 @@ impl Generator {
         }
     }
 
-    fn block_and_unblock(&mut self) {
+    pub(crate) fn block_and_unblock(&mut self) {
         let pin = self.random.pick(&[PIN1, PIN2]);
         for _ in 0..self.random.between(1, 5) {
             self.verify(pin, 5);
@@ -265,7 +246,7 @@ impl Generator {
         }
     }
 
-    fn read_code_records(&mut self) {
+    pub(crate) fn read_code_records(&mut self) {
         self.send(0x00, 0xA4, 0x00, 0x0C, &[], None);
         self.send(0x00, 0xA4, 0x02, 0x0C, &[0x00, 0x16], None);
         for record in 1..=3 {
@@ -273,7 +254,7 @@ impl Generator {
         }
     }
 
-    fn select(&mut self) {
+    pub(crate) fn select(&mut self) {
         let id = self.random.pick(&[0x0016u16, 0x5044, 0x5044, 0x0033, 0xAACE, 0xDDCE, 0xEEEE, 0x3F00, 0x0000]);
         let id = id.to_be_bytes();
         let le = self.random.pick(&[None, None, Some(0)]);
@@ -287,38 +268,20 @@ impl Generator {
     }
 
     /// Into EEEEh, to one of its files, and reads there.
-    fn browse(&mut self) {
+    pub(crate) fn browse(&mut self) {
         let id = self.random.pick(&[0x5044u16, 0x0033, 0xAACE, 0xAACE, 0xDDCE, 0xDDCE]);
         self.send(0x00, 0xA4, 0x00, 0x0C, &[], None);
         self.send(0x00, 0xA4, 0x01, 0x0C, &[0xEE, 0xEE], None);
         self.send(0x00, 0xA4, 0x02, 0x0C, &id.to_be_bytes(), None);
         for _ in 0..self.random.between(1, 4) {
-            self.read();
-        }
-    }
-
-    fn read(&mut self) {
-        let le = self.maybe_le();
-        match self.random.below(2) {
-            0 => {
-                let any = self.random.below(1600);
-                let offset = self.random.pick(&[0, 1, 6, 7, 255, 256, 343, 344, 345, 599, 600, 1535, 1536, 0x7FFF, 0x8000, any, any, any]);
-                let [p1, p2] = (offset as u16).to_be_bytes();
-                self.send(0x00, 0xB0, p1, p2, &[], le);
-            }
-            _ => {
-                let record = self.random.pick(&[0, 1, 1, 2, 3, 4, 15, 16, 17, 255]);
-                let le = self.random.pick(&[le, Some(5), Some(6), Some(9), Some(10), Some(20), Some(21)]);
-                self.send(0x00, 0xB2, record, 0x04, &[], le);
-                self.get_responses();
-            }
+            S::read(self);
         }
     }
 
     /// Takes what is held in pieces.
-    fn get_responses(&mut self) {
+    pub(crate) fn get_responses(&mut self) {
         for _ in 0..6 {
-            let held = self.session.card.held.length;
+            let held = self.session.card().held.length;
             if held == 0 && !self.random.percent(10) {
                 return;
             }
@@ -327,12 +290,12 @@ impl Generator {
         }
     }
 
-    fn environment(&mut self) {
+    pub(crate) fn environment(&mut self) {
         let number = self.random.pick(&[1, 1, 1, 6, 6, 6, 0, 2, 7, 0xFF]);
         self.send(0x00, 0x22, 0xF3, number, &[], None);
     }
 
-    fn choose_key(&mut self) {
+    pub(crate) fn choose_key(&mut self) {
         let kind = self.random.pick(&[0xA4, 0xB6, 0xB8, 0xB8, 0xB4]);
         let key = self.random.pick(&[0x0100u16, 0x0200, 0x1100, 0x1200, 0x0300, 0x0000]).to_be_bytes();
         let mut data = vec![0x83, 0x03, 0x80, key[0], key[1]];
@@ -346,13 +309,18 @@ impl Generator {
         self.send(0x00, 0x22, 0x41, kind, &data, None);
     }
 
-    fn authenticate(&mut self) {
+    pub(crate) fn authenticate(&mut self) {
         if self.random.percent(40) {
             self.send(0x00, 0x22, 0xF3, 0x01, &[], None);
         }
         if self.random.percent(70) {
             self.verify(PIN1, 95);
         }
+        self.internal_authenticate();
+    }
+
+    /// The command alone, and a result.
+    pub(crate) fn internal_authenticate(&mut self) {
         let n = self.random.pick(&[1, 20, 35, 51, 244, 245, 245, 246, 255, 0]);
         let data = self.random.bytes(n);
         let le = self.maybe_le();
@@ -360,13 +328,18 @@ impl Generator {
         self.deliver();
     }
 
-    fn sign(&mut self) {
+    pub(crate) fn sign(&mut self) {
         if self.random.percent(40) {
             self.send(0x00, 0x22, 0xF3, 0x01, &[], None);
         }
         if self.random.percent(75) {
             self.verify(PIN2, 95);
         }
+        self.sign_digest();
+    }
+
+    /// The command alone, perhaps twice, and a result.
+    pub(crate) fn sign_digest(&mut self) {
         let (mut digest, hash) = self.random.pick(&digest_heads());
         digest.extend(self.random.bytes(hash));
         if self.random.percent(25) {
@@ -379,7 +352,7 @@ impl Generator {
         }
         let le = self.maybe_le();
         self.send(0x00, 0x2A, 0x9E, 0x9A, &digest, le);
-        if self.session.card.job.is_none() || self.random.percent(85) {
+        if self.session.card().job.is_none() || self.random.percent(85) {
             self.deliver();
         }
         if self.random.percent(30) {
@@ -388,11 +361,16 @@ impl Generator {
         }
     }
 
-    fn decipher(&mut self) {
+    pub(crate) fn decipher(&mut self) {
         if self.random.percent(70) {
             self.send(0x00, 0x22, 0xF3, 0x06, &[], None);
             self.verify(PIN1, 95);
         }
+        self.decipher_parts();
+    }
+
+    /// The commands of a chain alone, and a result.
+    pub(crate) fn decipher_parts(&mut self) {
         let first = if self.random.percent(92) { 0 } else { 0x81 };
         let parts: &[usize] = self.random.pick(&[
             &[255, 2], &[255, 2], &[255, 2], &[255, 1], &[255, 3], &[128, 129], &[1, 255, 1], &[100, 100, 57], &[255, 1, 1],
@@ -414,16 +392,14 @@ impl Generator {
     }
 
     /// A result of the key host; sometimes something else comes first.
-    fn deliver(&mut self) {
-        let Some(job) = self.session.card.job else {
+    pub(crate) fn deliver(&mut self) {
+        let Some(job) = self.session.card().job else {
             if self.random.percent(5) {
                 self.call(b'D', &[0; 256]);
             }
             return;
         };
-        if self.random.percent(12) {
-            self.interruption();
-        }
+        S::before_delivery(self);
         let mut result = self.random.bytes(256);
         if job.kind == DECIPHER {
             result = self.deciphered();
@@ -461,7 +437,7 @@ impl Generator {
         block
     }
 
-    fn noise(&mut self) {
+    pub(crate) fn noise(&mut self) {
         let r = &mut self.random;
         let apdu = match r.below(5) {
             0 => vec![0xFF; r.pick(&[0, 1, 3, 4, 5, 6, 260, 261, 262])],
@@ -486,50 +462,15 @@ impl Generator {
         };
         self.call(b'C', &apdu);
     }
-
-    fn scenario(&mut self) {
-        match self.random.below(100) {
-            0..=2 => self.malformed(),
-            3..=4 => self.line(b"P".to_vec()),
-            5..=8 => self.noise(),
-            9..=18 => self.select(),
-            19..=26 => self.browse(),
-            27..=39 => self.read(),
-            40..=43 => self.get_responses(),
-            44..=51 => {
-                let code = self.any_code();
-                self.verify(code, 70);
-            }
-            52..=56 => self.change(),
-            57..=60 => {
-                let pin = self.random.pick(&[PIN1, PIN2]);
-                self.unblock(pin);
-            }
-            61..=66 => self.block_and_unblock(),
-            67..=71 => self.environment(),
-            72..=77 => self.choose_key(),
-            78..=84 => self.authenticate(),
-            85..=91 => self.sign(),
-            92..=98 => self.decipher(),
-            _ => {
-                let n = self.random.below(300);
-                let result = self.random.bytes(n);
-                self.call(b'D', &result);
-            }
-        }
-        if self.session.card.job.is_some() && self.random.percent(70) {
-            self.deliver();
-        }
-    }
 }
 
-impl Iterator for Generator {
+impl<S: Played> Iterator for Generator<S> {
     type Item = Vec<u8>;
 
     /// Lines without their line feed; there is always a next one.
     fn next(&mut self) -> Option<Vec<u8>> {
         while self.pending.is_empty() {
-            self.scenario();
+            S::scenario(self);
         }
         self.pending.pop_front()
     }

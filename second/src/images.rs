@@ -1,30 +1,249 @@
 //! A generator of card images: valid, with one field wrong, mutated, truncated, random.
 
 use crate::generate::Random;
+use crate::state::{key_class, shortest_code, KeyClass, LONGEST_CODE, LONGEST_RECORD, RECORDS, REFERENCES};
 use crate::sample;
-use crate::state::{key_class, shortest_code, KeyClass};
 
+const KEY_SETS: [&[u16]; 9] = [
+    &[0x0100, 0x1100],
+    &[0x0100, 0x1200],
+    &[0x0200, 0x1100],
+    &[0x0200, 0x1200],
+    &[0x0100, 0x0200, 0x1100],
+    &[0x0100, 0x0200, 0x1200],
+    &[0x0100, 0x1100, 0x1200],
+    &[0x0200, 0x1100, 0x1200],
+    &[0x0100, 0x0200, 0x1100, 0x1200],
+];
+
+struct CodePart {
+    length: u8,
+    digits: Vec<u8>,
+    tries: u8,
+}
+
+struct RecordPart {
+    length: u8,
+    bytes: Vec<u8>,
+}
+
+/// An image by its fields, each as the image says it, right or wrong.
+pub struct Parts {
+    code_count: u8,
+    codes: Vec<CodePart>,
+    key_count: u8,
+    keys: Vec<u16>,
+    reference_count: u8,
+    references: Vec<u8>,
+    record_count: u8,
+    records: Vec<RecordPart>,
+    left_over: Vec<u8>,
+}
+
+#[derive(Clone, Copy)]
+enum Lengths {
+    Shortest,
+    Longest,
+    Any,
+}
+
+impl Lengths {
+    fn pick(self, r: &mut Random, least: usize, most: usize) -> usize {
+        match self {
+            Lengths::Shortest => least,
+            Lengths::Longest => most,
+            Lengths::Any => r.between(least, most),
+        }
+    }
+}
+
+impl Parts {
+    /// A valid image of any shape; the shortest and the longest now and then.
+    pub fn valid(r: &mut Random) -> Parts {
+        let (lengths, key_sets) = match r.below(40) {
+            0 => (Lengths::Shortest, &KEY_SETS[..4]),
+            1 => (Lengths::Longest, &KEY_SETS[8..]),
+            _ => (Lengths::Any, &KEY_SETS[..]),
+        };
+        let keys = r.pick(key_sets).to_vec();
+        let mut parts = Parts {
+            code_count: 3,
+            codes: (0..3).map(|number| valid_code(r, number, lengths)).collect(),
+            key_count: keys.len() as u8,
+            references: r.bytes(REFERENCES),
+            reference_count: REFERENCES as u8,
+            record_count: RECORDS as u8,
+            records: valid_records(r, lengths),
+            left_over: Vec::new(),
+            keys,
+        };
+        for class in [KeyClass::Authentication, KeyClass::Signature] {
+            let own: Vec<u16> = parts.keys.iter().copied().filter(|key| key_class(*key) == Some(class)).collect();
+            parts.name_active(class, r.pick(&own));
+        }
+        parts
+    }
+
+    fn name_active(&mut self, class: KeyClass, key: u16) {
+        let at = if class == KeyClass::Authentication { 9 } else { 19 };
+        self.references[at..at + 2].copy_from_slice(&key.to_be_bytes());
+    }
+
+    pub fn bytes(&self) -> Vec<u8> {
+        let mut image = vec![self.code_count];
+        for code in &self.codes {
+            image.push(code.length);
+            image.extend(&code.digits);
+            image.push(code.tries);
+        }
+        image.push(self.key_count);
+        self.keys.iter().for_each(|key| image.extend(key.to_be_bytes()));
+        image.push(self.reference_count);
+        image.extend(&self.references);
+        image.push(self.record_count);
+        for record in &self.records {
+            image.push(record.length);
+            image.extend(&record.bytes);
+        }
+        image.extend(&self.left_over);
+        image
+    }
+
+    /// Makes one field wrong; a place beyond this image's fields counts from its first again.
+    pub fn damage(&mut self, r: &mut Random, fault: Fault) {
+        match fault {
+            Fault::CodeCount => self.code_count = r.pick(&[0, 2, 4, 255]),
+            Fault::CodeLength(number) => {
+                let length = r.pick(&[0, shortest_code(number) - 1, 13, 255]);
+                self.codes[number] = CodePart { length: length as u8, digits: r.digits(length), tries: 3 };
+            }
+            Fault::Digit(number, place) => {
+                let digits = &mut self.codes[number].digits;
+                let at = place % digits.len();
+                digits[at] = r.pick(&[0x2F, 0x3A, 0x00, 0xFF, b'A']);
+            }
+            Fault::Tries(number) => self.codes[number].tries = r.pick(&[4, 5, 0x30, 0x33, 255]),
+            Fault::KeyCount => self.key_count = r.pick(&[0, 1, 5, 255]),
+            Fault::UnknownKey(place) => {
+                let at = place % self.keys.len();
+                self.keys[at] = r.pick(&[0x0000, 0x0001, 0x0300, 0x0101, 0x1000, 0x1101, 0x1300, 0x2100, 0xFFFF]);
+            }
+            Fault::KeyOrder(place) => {
+                let at = place % (self.keys.len() - 1);
+                self.keys.swap(at, at + 1);
+            }
+            Fault::KeyTwice(place) => {
+                let at = place % (self.keys.len() - 1);
+                self.keys[at + 1] = self.keys[at];
+            }
+            Fault::NoKeyOf(KeyClass::Signature) => self.only_keys(&[0x1100, 0x1200]),
+            Fault::NoKeyOf(KeyClass::Authentication) => self.only_keys(&[0x0100, 0x0200]),
+            Fault::ReferenceCount => self.reference_count = r.pick(&[0, 20, 22, 255]),
+            Fault::Reference(class) => {
+                let wrong = |key: &u16| !self.keys.contains(key) || key_class(*key) != Some(class);
+                let keys = [0x0000, 0x0100, 0x0200, 0x1100, 0x1200, 0x0101, 0x1101, 0x0011, 0x0001, 0xFFFF];
+                let key = r.pick(&keys.into_iter().filter(wrong).collect::<Vec<u16>>());
+                self.name_active(class, key);
+            }
+            Fault::RecordCount => self.record_count = r.pick(&[0, 15, 17, 255]),
+            Fault::RecordLength(number) => {
+                let length = r.pick(&[0, 65, 128, 255]);
+                self.records[number] = RecordPart { length: length as u8, bytes: r.bytes(length) };
+            }
+            Fault::LeftOver => {
+                let n = r.pick(&[1, 1, 2, 100, 900]);
+                self.left_over = r.bytes(n);
+            }
+        }
+    }
+
+    fn only_keys(&mut self, keys: &[u16]) {
+        self.keys = keys.to_vec();
+        self.key_count = keys.len() as u8;
+    }
+}
+
+/// Three tries a little more often than fewer.
+fn valid_code(r: &mut Random, number: usize, lengths: Lengths) -> CodePart {
+    let length = lengths.pick(r, shortest_code(number), LONGEST_CODE);
+    CodePart { length: length as u8, digits: r.digits(length), tries: r.pick(&[0, 1, 2, 3, 3, 3]) }
+}
+
+fn valid_records(r: &mut Random, lengths: Lengths) -> Vec<RecordPart> {
+    let lengths = match r.below(10) {
+        0 => Lengths::Shortest,
+        1 => Lengths::Longest,
+        _ => lengths,
+    };
+    let record = |_| {
+        let length = lengths.pick(r, 1, LONGEST_RECORD);
+        RecordPart { length: length as u8, bytes: r.bytes(length) }
+    };
+    (0..RECORDS).map(record).collect()
+}
+
+#[derive(Clone, Copy, Debug, PartialEq, Eq)]
+pub enum Fault {
+    CodeCount,
+    CodeLength(usize),
+    Digit(usize, usize),
+    Tries(usize),
+    KeyCount,
+    UnknownKey(usize),
+    KeyOrder(usize),
+    KeyTwice(usize),
+    NoKeyOf(KeyClass),
+    ReferenceCount,
+    Reference(KeyClass),
+    RecordCount,
+    RecordLength(usize),
+    LeftOver,
+}
+
+impl Fault {
+    /// Every fault at every place.
+    pub fn all() -> Vec<Fault> {
+        let mut faults = vec![Fault::CodeCount, Fault::KeyCount, Fault::ReferenceCount, Fault::RecordCount, Fault::LeftOver];
+        for number in 0..3 {
+            faults.extend([Fault::CodeLength(number), Fault::Tries(number)]);
+            faults.extend((0..LONGEST_CODE).map(|place| Fault::Digit(number, place)));
+            faults.extend([Fault::KeyOrder(number), Fault::KeyTwice(number)]);
+        }
+        faults.extend((0..4).map(Fault::UnknownKey));
+        for class in [KeyClass::Authentication, KeyClass::Signature] {
+            faults.extend([Fault::NoKeyOf(class), Fault::Reference(class)]);
+        }
+        faults.extend((0..RECORDS).map(Fault::RecordLength));
+        faults
+    }
+
+    /// The load number where this is the image's first fault.
+    pub fn number(self) -> u8 {
+        match self {
+            Fault::CodeCount | Fault::KeyCount | Fault::ReferenceCount | Fault::RecordCount => 22,
+            Fault::CodeLength(_) | Fault::Digit(..) | Fault::Tries(_) => 23,
+            Fault::UnknownKey(_) | Fault::KeyOrder(_) | Fault::KeyTwice(_) | Fault::NoKeyOf(_) => 24,
+            Fault::Reference(_) => 25,
+            Fault::RecordLength(_) => 26,
+            Fault::LeftOver => 27,
+        }
+    }
+}
+
+/// Any image, about one in four of them valid.
 pub fn image(r: &mut Random) -> Vec<u8> {
     match r.below(20) {
-        0..=3 => valid(r, NO_FAULT),
+        0..=3 => Parts::valid(r).bytes(),
         4..=10 => {
-            let fault = r.between(1, FAULTS);
-            valid(r, fault)
+            let fault = r.pick(&Fault::all());
+            with_fault(r, fault)
         }
         11..=16 => {
-            let mut image = if r.percent(30) { sample::image() } else { valid(r, NO_FAULT) };
-            for _ in 0..r.pick(&[1, 1, 1, 2]) {
-                mutate(r, &mut image);
-            }
-            image
+            let image = if r.percent(30) { sample::image() } else { Parts::valid(r).bytes() };
+            mutated(r, image)
         }
-        17 | 18 => {
-            let mut image = valid(r, NO_FAULT);
-            let head = image.len().min(90);
-            let most = r.pick(&[head, image.len()]);
-            image.truncate(r.below(most));
-            image
-        }
+        17 | 18 if r.percent(5) => filled_up(r, 70_000),
+        17 | 18 => cut_short(r),
         _ => {
             let n = r.pick(&[0, 1, 20, 84, 1115, 1116]);
             let mut image = r.bytes(n);
@@ -36,81 +255,42 @@ pub fn image(r: &mut Random) -> Vec<u8> {
     }
 }
 
-const NO_FAULT: usize = 0;
-const FAULTS: usize = 15;
+pub fn with_fault(r: &mut Random, fault: Fault) -> Vec<u8> {
+    let mut parts = Parts::valid(r);
+    parts.damage(r, fault);
+    parts.bytes()
+}
 
-/// A valid image, but for the one fault asked for.
-fn valid(r: &mut Random, fault: usize) -> Vec<u8> {
-    let mut image = vec![if fault == 1 { r.pick(&[0, 2, 4]) } else { 3 }];
-    let damaged = r.below(3);
-    for number in 0..3 {
-        let here = number == damaged;
-        let shortest = shortest_code(number);
-        let mut length = r.between(shortest, 12);
-        if fault == 2 && here {
-            length = r.pick(&[0, shortest - 1, 13, 255]);
+/// Two fields wrong: the first in reading order counts.
+pub fn with_two_faults(r: &mut Random) -> Vec<u8> {
+    let mut parts = Parts::valid(r);
+    for _ in 0..2 {
+        let fault = r.pick(&Fault::all());
+        if !matches!(fault, Fault::Digit(number, _) if parts.codes[number].digits.is_empty()) {
+            parts.damage(r, fault);
         }
-        let mut digits = r.digits(length);
-        if fault == 3 && here {
-            let at = r.below(length);
-            digits[at] = r.pick(&[0x2F, 0x3A, 0x00, 0xFF]);
-        }
-        image.push(length as u8);
-        image.extend(digits);
-        image.push(if fault == 4 && here { r.pick(&[4, 255]) } else { r.below(4) as u8 });
     }
-    let mut keys: Vec<u16> = r.pick(&[
-        &[0x0100u16, 0x1100][..], &[0x0100, 0x1200], &[0x0200, 0x1100], &[0x0200, 0x1200],
-        &[0x0100, 0x0200, 0x1100], &[0x0100, 0x0200, 0x1200], &[0x0100, 0x1100, 0x1200],
-        &[0x0200, 0x1100, 0x1200], &[0x0100, 0x0200, 0x1100, 0x1200],
-    ]).to_vec();
-    let own = |class| keys.iter().copied().filter(|key| key_class(*key) == Some(class)).collect::<Vec<u16>>();
-    let (mut authentication, mut signature) = (r.pick(&own(KeyClass::Authentication)), r.pick(&own(KeyClass::Signature)));
-    match fault {
-        5 => {
-            let at = r.below(keys.len());
-            keys[at] = r.pick(&[0x0000, 0x0300, 0x0101, 0x1000, 0xFFFF]);
-        }
-        6 => keys.reverse(),
-        7 => {
-            let at = r.below(keys.len() - 1);
-            keys[at + 1] = keys[at];
-        }
-        8 => keys = r.pick(&[[0x0100, 0x0200], [0x1100, 0x1200]]).to_vec(),
-        _ => {}
-    }
-    image.push(if fault == 9 { r.pick(&[0, 1, 5, 255]) } else { keys.len() as u8 });
-    keys.iter().for_each(|key| image.extend(key.to_be_bytes()));
-    let bad = r.pick(&[0x0000, 0x0100, 0x0200, 0x1100, 0x1200, 0x1101]);
-    match fault {
-        10 => authentication = bad,
-        11 => signature = bad,
-        _ => {}
-    }
-    let mut references = r.bytes(21);
-    references[9..11].copy_from_slice(&authentication.to_be_bytes());
-    references[19..21].copy_from_slice(&signature.to_be_bytes());
-    image.push(if fault == 12 { r.pick(&[0, 20, 22]) } else { 21 });
-    image.extend(references);
-    image.push(if fault == 13 { r.pick(&[0, 15, 17]) } else { 16 });
-    let damaged = r.below(16);
-    let short = r.percent(50);
-    for number in 0..16 {
-        let mut length = if short { r.pick(&[1, 2, 3]) } else { r.pick(&[1, 20, 63, 64, 64]) };
-        if fault == 14 && number == damaged {
-            length = r.pick(&[0, 65, 255]);
-        }
-        image.push(length as u8);
-        image.extend(r.bytes(length));
-    }
-    if fault == 15 {
-        let n = r.pick(&[1, 1, 2, 100, 70_000]);
-        image.extend(r.bytes(n));
+    parts.bytes()
+}
+
+/// Ends early, half of the time before the personal records.
+pub fn cut_short(r: &mut Random) -> Vec<u8> {
+    let mut image = Parts::valid(r).bytes();
+    let head = image.len().min(90);
+    let most = r.pick(&[head, image.len()]);
+    image.truncate(r.below(most));
+    image
+}
+
+/// One or two bytes changed, removed or inserted.
+pub fn mutated(r: &mut Random, mut image: Vec<u8>) -> Vec<u8> {
+    for _ in 0..r.pick(&[1, 1, 1, 2]) {
+        mutate(r, &mut image);
     }
     image
 }
 
-/// A byte changed, removed or inserted, mostly before the personal records.
+/// Mostly before the personal records.
 fn mutate(r: &mut Random, image: &mut Vec<u8>) {
     let head = image.len().min(75);
     let most = r.pick(&[head, head, image.len()]);
@@ -121,4 +301,11 @@ fn mutate(r: &mut Random, image: &mut Vec<u8>) {
         2 => drop(image.remove(at)),
         _ => image.insert(at, r.byte()),
     }
+}
+
+/// A valid image with so much left over that it has this length.
+pub fn filled_up(r: &mut Random, length: usize) -> Vec<u8> {
+    let mut image = Parts::valid(r).bytes();
+    image.extend(r.bytes(length - image.len()));
+    image
 }

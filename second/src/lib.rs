@@ -1,16 +1,23 @@
 //! An independent second software EstEID card, written from document 01 alone.
 
+pub mod answers;
 pub mod apdu;
 pub mod card;
 pub mod generate;
+pub mod generate_stand_in;
+pub mod generate_transcript;
 pub mod hex;
 pub mod image;
 pub mod images;
+pub mod lines;
 pub mod listing;
 pub mod pad_lines;
 pub mod padding;
+pub mod program;
 pub mod request;
 pub mod sample;
+pub mod session;
+pub mod stand_in;
 pub mod state;
 pub mod status;
 pub mod transcript;

@@ -1,6 +1,7 @@
 //! Document 01's cases P1 to P10 and its printed transcript.
 
-use second::transcript::{run, Transcript};
+use second::lines::{run, LineProgram};
+use second::transcript::Transcript;
 use second::{hex, padding};
 
 /// Each line with its output line, from the sample card.
@@ -38,9 +39,9 @@ fn p3_unblocking_a_pin_with_tries() {
 fn p4_refused_change_keeps_tries_and_mark() {
     for first in [("P", "P"), ("C002000010431323334", "R9000"), ("C002000010439393939", "R63C2")] {
         let mut session = check(&[first]);
-        let before = session.card.clone();
+        let before = session.card().clone();
         assert_eq!(session.line(b"C0024000106313233343132"), "R6A80");
-        assert_eq!(session.card, before);
+        assert_eq!(session.card(), &before);
     }
 }
 

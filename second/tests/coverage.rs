@@ -1,6 +1,7 @@
 //! Over a few fixed seeds the generator reaches every answer a transcript can give.
 
 use second::generate::{Generator, Random};
+use second::lines::LineProgram;
 use second::transcript::Transcript;
 use second::{images, load, pad_lines};
 use std::collections::BTreeSet;
@@ -13,7 +14,7 @@ fn every_answer_occurs() {
         for line in Generator::new(seed, 4000).take(4000) {
             assert!(!line.contains(&b'\n'));
             let output = session.line(&line);
-            assert!(session.card.is_good());
+            assert!(session.card().is_good());
             let word = match output.as_bytes()[0] {
                 b'R' => output[output.len() - 4..].to_string(),
                 b'J' => output[..2].to_string(),

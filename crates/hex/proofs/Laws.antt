@@ -1,19 +1,20 @@
 -- Laws of hex.
-use mathlib.Core.Path.{_≡_, refl}
+use mathlib.Core.Path.{_≡_, refl, sym, ap, _∙_}
+use mathlib.Core.Logic.{_≢_}
 use mathlib.Core.Bool.{true, _&&_}
 use mathlib.Core.List.{[], _∷_}
 use Prim.Native.Nat.{ℕ, zero, suc, _+_, _*_, _/_, _%_, _≤_, _<_}
-use native.Mathlib.Nat.{not-suc-le-zero}
+use native.Mathlib.Nat.{zero-add, not-suc-le-zero}
 use native.Mathlib.Numerals.{add-one}
 use native.Mathlib.Omega.{arith}
-use lib.Dec.{eqb, leb}
-use lib.ListN.{length, take, set}
-use borrow.Author.Tests.{eqb-true, lt-ltb}
-use Rattle.octets.specs.Octets.{Bytes, byteAt, all, allBytes, filled}
-use Rattle.octets.proofs.Tests.{split, and-left}
+use lib.Dec.{leb}
+use lib.ListN.{length, set}
+use lib.Seq.{paste, paste-suc}
+use borrow.Author.Tests.{lt-ltb}
+use Rattle.octets.specs.Octets.{Bytes, byteAt, allBytes}
+use Rattle.octets.proofs.Tests.{split}
 use Rattle.octets.proofs.Lists.{between}
-use Rattle.octets.proofs.Filling.{filled-more}
-use Rattle.hex.specs.Hex.{hexDigit, hexValue, hexCharacter, isHex, bytesOf, hexOf}
+use Rattle.hex.specs.Hex.{hexValue, hexCharacter, bytesOf, hexOf}
 
 -- The value of a hex digit is below 16.
 pub hexValue-small : (x : ℕ) → hexValue x < 16
@@ -39,16 +40,8 @@ length-pairs [] = omega arith
 length-pairs (h ∷ []) = omega arith
 length-pairs (h ∷ l ∷ s) = omega (arith, length-pairs s)
 
--- In the hex of whole bytes none is.
-module _ (s : Bytes) (e : isHex s ≡ true) where
-  even : length s % 2 ≡ 0
-  even = eqb-true (length s % 2) 0 (and-left (eqb (length s % 2) 0) (all hexDigit s) e)
-
-  pub length-bytesOf : length (bytesOf s) + length (bytesOf s) ≡ length s
-  length-bytesOf = omega (arith, length-pairs s, even)
-
-  pub length-bytesOf-div : length s / 2 ≡ length (bytesOf s)
-  length-bytesOf-div = omega (arith, length-bytesOf)
+pub length-bytesOf : (s : Bytes) → length (bytesOf s) ≡ length s / 2
+length-bytesOf s = omega (arith, length-pairs s)
 
 pub length-hexOf : (s : Bytes) → length (hexOf s) ≡ length s + length s
 length-hexOf [] = refl
@@ -76,20 +69,27 @@ byteAt-hexOf-low [] j h = absurd (not-suc-le-zero h)
 byteAt-hexOf-low (x ∷ s) zero h = refl
 byteAt-hexOf-low (x ∷ s) (suc j) h = rw double (byteAt-hexOf-low s j (omega arith))
 
--- A turn of each of the two loops.
-module _ (n : ℕ) (s : Bytes) (i j : ℕ) (twice : i ≡ j + j) where
-  pub byte-more : {x : ℕ} → j < n → i + 1 < length s → x ≡ hexValue (byteAt s i) * 16 + hexValue (byteAt s (i + 1))
-      → set (filled n (take j (bytesOf s))) j x ≡ filled n (take (j + 1) (bytesOf s))
-  byte-more {x} h k e =
-      let it : byteAt (bytesOf s) j ≡ x = rw (e, add-one, twice) (byteAt-bytesOf s j (omega arith)) in
-      rw (← it) (filled-more n (bytesOf s) j h (omega (arith, length-pairs s)))
+-- The digit in any place of a hex text, of a string whose bytes are below 256.
+module _ (s : Bytes) (i : ℕ) (h : i < length (hexOf s)) (small : byteAt s (i / 2) < 256) where
+  inside : i / 2 < length s
+  inside = omega (arith, length-hexOf s)
 
-  pub hex-more : {x y : ℕ} → i + 1 < n → j < length s → byteAt s j < 256 → x ≡ hexCharacter (byteAt s j / 16 % 16) → y ≡ hexCharacter (byteAt s j % 16)
-      → set (set (filled n (take i (hexOf s))) i x) (i + 1) y ≡ filled n (take (i + 2) (hexOf s))
-  hex-more {x} {y} h k b e f =
-      let size = length-hexOf s in
-      let half : byteAt s j / 16 % 16 ≡ byteAt s j / 16 = omega arith in
-      let high : byteAt (hexOf s) i ≡ x = rw (e, half, twice) (byteAt-hexOf-high s j k) in
-      let low : byteAt (hexOf s) (i + 1) ≡ y = rw (f, add-one, twice) (byteAt-hexOf-low s j k) in
-      let two : i + 1 + 1 ≡ i + 2 = omega arith in
-      rw (← high, ← low, filled-more n (hexOf s) i (omega arith) (omega arith), ← two) (filled-more n (hexOf s) (i + 1) h (omega arith))
+  pub digit-high : i % 2 ≡ 0 → hexCharacter (byteAt s (i / 2) / 16 % 16) ≡ byteAt (hexOf s) i
+  digit-high e =
+      let half : byteAt s (i / 2) / 16 % 16 ≡ byteAt s (i / 2) / 16 = omega arith in
+      let twice : i ≡ i / 2 + i / 2 = omega arith in
+      rw half (sym (ap (byteAt (hexOf s)) twice ∙ byteAt-hexOf-high s (i / 2) inside))
+
+  pub digit-low : i % 2 ≢ 0 → hexCharacter (byteAt s (i / 2) % 16) ≡ byteAt (hexOf s) i
+  digit-low n =
+      let twice : i ≡ suc (i / 2 + i / 2) = omega arith in
+      sym (ap (byteAt (hexOf s)) twice ∙ byteAt-hexOf-low s (i / 2) inside)
+
+-- A turn of the loop that writes bytes.
+pub byte-more : (dst s : Bytes) (j : ℕ) {x : ℕ} → j < length dst → j < length (bytesOf s)
+    → x ≡ hexValue (byteAt s (2 * j)) * 16 + hexValue (byteAt s (2 * j + 1))
+    → set (paste dst 0 (bytesOf s) j) j x ≡ paste dst 0 (bytesOf s) (j + 1)
+byte-more dst s j {x} h k e =
+    let twice : 2 * j ≡ j + j = omega arith in
+    let it : byteAt (bytesOf s) j ≡ x = rw (e, twice, add-one) (byteAt-bytesOf s j (omega (arith, length-pairs s))) in
+    rw (← it, add-one) (simp zero-add (simp zero-add at (paste-suc dst 0 (bytesOf s) j 0 (omega arith) k)))

@@ -1,8 +1,8 @@
 // Upper-case hex of whole bytes. Every function takes every input.
 ghost use mathlib.Core.Path.{_≡_};
-ghost use Prim.Native.Nat.{_+_, _*_, _%_};
-ghost use lib.ListN.{take};
-ghost use Rattle.octets.specs.Octets.{filled};
+ghost use Prim.Native.Nat.{_+_, _*_, _%_, _<_, min};
+ghost use lib.ListN.{length};
+ghost use Rattle.octets.specs.Octets.{byteAt, pasted};
 ghost use Rattle.hex.specs.Hex.{hexDigit, hexValue, hexCharacter, isHex, bytesOf, hexOf};
 
 // Whether c is a hex digit.
@@ -62,35 +62,41 @@ pub fn is_hex(s: &[u8]) -> bool
     true
 }
 
-// The bytes that at most 1,024 hex digits say, in the first places, zeros after them.
-pub fn bytes_of(s: &[u8]) -> [u8; 512]
-    ensures { λ r. ⌜ r ≡ filled 512 (bytesOf (take 1024 (now (s .entry)))) ⌝ }
+// Writes at the front of dst the bytes that the pairs of hex digits of s say, as many as fit, and answers how many.
+pub fn bytes_of(s: &[u8], dst: &mut [u8]) -> usize
+    ensures { λ r. ⌜ (r ≡ min (length (bytesOf (now (s .entry)))) (length (now (dst .entry)))) × (now (dst .exit) ≡ pasted (now (dst .entry)) 0 (bytesOf (now (s .entry)))) ⌝ }
 {
-    let text = octets::part(s, 0, 1024);
-    let mut bytes = [0u8; 512];
-    let mut i = 0;
+    let end = numbers::sum_within(0, s.len() / 2, dst.len());
     let mut j = 0;
-    while i + 1 < text.len() {
-        bytes[j] = byte(text[i], text[i + 1]);
-        i += 2;
+    while j < end {
+        dst[j] = byte(s[2 * j], s[2 * j + 1]);
         j += 1;
     }
-    bytes
+    end
 }
 
-// The hex of at most 258 bytes, in the first places, zeros after it.
-pub fn hex_of(s: &[u8]) -> [u8; 516]
-    ensures { λ r. ⌜ r ≡ filled 516 (hexOf (take 258 (now (s .entry)))) ⌝ }
+// The hex digit in place i of the hex of s.
+fn hex_digit(s: &[u8], i: usize) -> u8
+    requires { ⌜ i < length (hexOf (now s)) ⌝ }
+    ensures { λ r. ⌜ r ≡ byteAt (hexOf (now (s .entry))) i ⌝ }
 {
-    let bytes = octets::part(s, 0, 258);
-    let mut text = [0u8; 516];
-    let mut i = 0;
+    let x = octets::byte_at(s, i / 2);
+    if i % 2 == 0 {
+        return character(x / 16);
+    }
+    character(x)
+}
+
+// Writes the hex of s into dst, from index `at` on, as much of it as fits, and answers the place behind it.
+pub fn hex_at(dst: &mut [u8], at: usize, s: &[u8]) -> usize
+    ensures { λ r. ⌜ (r ≡ min (at + length (hexOf (now (s .entry)))) (length (now (dst .entry)))) × (now (dst .exit) ≡ pasted (now (dst .entry)) at (hexOf (now (s .entry)))) ⌝ }
+{
+    let half = numbers::sum_within(at, s.len(), dst.len());
+    let end = numbers::sum_within(half, s.len(), dst.len());
     let mut j = 0;
-    while j < bytes.len() {
-        text[i] = character(bytes[j] / 16);
-        text[i + 1] = character(bytes[j]);
-        i += 2;
+    while at + j < end {
+        dst[at + j] = hex_digit(s, j);
         j += 1;
     }
-    text
+    end
 }

@@ -13,10 +13,10 @@ fn print(s: &[u8]) {
 
 // A name, and the hex of at most 258 bytes.
 fn print_bytes(name: &[u8], s: &[u8]) {
-    let shown = octets::part(s, 0, 258);
-    let code = hex::hex_of(shown);
+    let mut code = [0u8; 516];
+    let n = hex::hex_at(&mut code, 0, s);
     print(name);
-    print(octets::part(&code, 0, 2 * shown.len()));
+    print(octets::part(&code, 0, n));
     print(b"\n");
 }
 

@@ -1,17 +1,18 @@
 -- What the proofs of the functions cite: a block written piece by piece, and a search for the first zero.
-use mathlib.Core.Path.{_≡_, refl, sym, ap}
+use mathlib.Core.Path.{_≡_, refl, sym, ap, _∙_}
 use mathlib.Core.Logic.{_≢_}
 use mathlib.Core.Bool.{Bool, _&&_, _||_, cond, false, false≢true, not, true}
-use mathlib.Core.List.{[], _∷_, _++_}
-use Prim.Native.Nat.{ℕ, suc, _+_, _-_, _<_, _≤_}
+use mathlib.Core.List.{[], _∷_, _++_, append-assoc}
+use Prim.Native.Nat.{ℕ, zero, suc, _+_, _-_, _<_, _≤_}
+use native.Mathlib.Nat.{sub-zero}
 use native.Mathlib.Numerals.{add-one}
 use native.Mathlib.Omega.{arith}
-use lib.ListN.{length, take, drop, set, replicate, length-append, length-drop, length-replicate, drop-of-length-le}
+use lib.ListN.{length, take, drop, set, replicate, length-take, length-drop, length-replicate, drop-of-length-le}
 use lib.Dec.{eqb, leb, ltb}
-use lib.Seq.{take-all, drop-cons}
-use borrow.Author.Tests.{eq-eqb, ne-eqb}
+use lib.Seq.{take-all, take-append-seam, drop-at, drop-cons, drop-drop}
+use borrow.Author.Tests.{eq-eqb, ne-eqb, lt-ltb, le-ltb, ltb-true, ltb-false}
 use Rattle.octets.specs.Octets.{Bytes, byteAt, pasted}
-use Rattle.octets.proofs.Tests.{by-test}
+use Rattle.octets.proofs.Tests.{by-test, either}
 use Rattle.octets.proofs.Pasting.{then-byte, then-string}
 use Rattle.pkcs1.specs.Pkcs1.{padded, beforeZero, enciphered, strip}
 use Rattle.pkcs1.proofs.Laws.{padded-parts}
@@ -30,10 +31,35 @@ module _ (s : Bytes) (i : ℕ) where
   unfolding beforeZero
   zero-end h = rw (drop-of-length-le s h)
 
-before-most : (s : Bytes) → beforeZero s ≤ length s
+pub before-most : (s : Bytes) → beforeZero s ≤ length s
 unfolding beforeZero
 before-most [] = omega arith
 before-most (x ∷ s) = by-test (beforeZero (x ∷ s) ≤ suc (length s)) (eqb x 0) (λ e. rw e (omega arith)) (λ e. rw e (omega (arith, before-most s)))
+
+-- Some of the bytes before the first zero are passed over.
+pub passed : (s : Bytes) (i : ℕ) → i ≤ beforeZero s → beforeZero s ≡ i + beforeZero (drop i s)
+unfolding beforeZero
+passed s zero h = omega arith
+passed [] (suc i) h = absurd (omega (arith, h))
+passed (x ∷ s) (suc i) h =
+    by-test (beforeZero (x ∷ s) ≡ suc i + beforeZero (drop i s)) (eqb x 0)
+    (λ e. absurd (omega (arith, rw e at h)))
+    (λ e. rw e (omega (arith, passed s i (omega (arith, rw e at h)))))
+
+-- One more byte, and whether the first zero from a place on was among those looked at.
+pub among-more : (s : Bytes) (at j : ℕ) → at + j < length s
+    → (ltb (beforeZero (drop at s)) j || eqb (byteAt s (at + j)) 0) ≡ ltb (beforeZero (drop at s)) (j + 1)
+among-more s at j h =
+    let n : ℕ = beforeZero (drop at s) in
+    by-test ((ltb n j || eqb (byteAt s (at + j)) 0) ≡ ltb n (j + 1)) (ltb n j)
+    (λ e.
+    let less : n < j = ltb-true n j e in
+    rw (e, lt-ltb n (j + 1) (omega arith)))
+    (λ e.
+    let rest : n ≡ j + beforeZero (drop (at + j) s) = rw (drop-drop j at s) at (passed (drop at s) j (ltb-false n j e)) in
+    either ((ltb n j || eqb (byteAt s (at + j)) 0) ≡ ltb n (j + 1)) (byteAt s (at + j)) 0
+    (λ z. rw (e, eq-eqb (byteAt s (at + j)) 0 z, lt-ltb n (j + 1) (omega (arith, zero-stop s (at + j) h z))))
+    (λ z. rw (e, ne-eqb (byteAt s (at + j)) 0 z, le-ltb n (j + 1) (omega (arith, zero-more s (at + j) h z)))))
 
 -- The two bytes that tell a block's type, judged before the rest of the block.
 type-lost : (l x y s t : Bool) → (not x || not y) ≡ true → (l && x && y && s && t) ≡ false
@@ -69,20 +95,35 @@ opened [] h = absurd (omega arith)
 opened (x ∷ []) h = absurd (omega arith)
 opened (x ∷ (y ∷ rest)) h = refl
 
--- The pieces of a padded block, written one after the other.
-pub padded-by : (d buffer : Bytes) (start : ℕ) → start ≡ 256 - length d → length d ≤ 245 → 256 ≤ length buffer
-    → pasted (set (pasted (set (set buffer 0 0x00) 1 0x01) 2 (replicate (start - 3) 0xFF)) (start - 1) 0x00) start d ≡ padded d ++ drop 256 buffer
-padded-by d buffer start e few room =
-    let filler : Bytes = replicate (start - 3) 0xFF in
-    let front : Bytes = 0x00 ∷ 0x01 ∷ [] in
-    let count : length filler ≡ start - 3 = length-replicate (start - 3) 0xFF in
-    let left : 253 - length d ≡ start - 3 = omega arith in
-    let size : length (front ++ filler ++ 0x00 ∷ []) ≡ start = simp length-append (omega arith) in
-    rw (
-      opened buffer (omega arith),
-      then-string buffer front 2 refl (start - 1) (omega arith) filler (omega arith),
-      then-byte buffer (front ++ filler) (start - 1) (omega arith) start (omega arith) 0x00 (omega arith),
-      then-string buffer (front ++ filler ++ 0x00 ∷ []) start size 256 room d (omega arith),
-      padded-parts d,
-      left,
-    )
+-- A string kept at the front of a room that has place for it.
+pub kept-whole : (room s : Bytes) → length s ≤ length room → take (length s) (pasted room 0 s) ≡ s
+unfolding pasted
+kept-whole room s h = rw (sub-zero (length room), take-all (length room) s h, take-append-seam s (drop (0 + length s) room))
+
+-- A padded block: the message written to its end, then the pieces before it one after the other.
+module _ (d buffer : Bytes) (start : ℕ) (e : start ≡ 256 - length d) (few : length d ≤ 245) (room : 256 ≤ length buffer) where
+  behind : drop start (pasted buffer start d) ≡ d ++ drop 256 buffer
+  unfolding pasted
+  behind =
+      let fits : length d ≤ length buffer - start = omega arith in
+      let size : length (take start buffer) ≡ start = length-take start buffer ∙ omega arith in
+      let end : start + length d ≡ 256 = omega arith in
+      rw (take-all (length buffer - start) d fits, drop-at (take start buffer) (d ++ drop (start + length d) buffer) start size, end)
+
+  pub padded-by : (b : Bytes) → length b ≡ length buffer → b ≡ pasted buffer start d
+      → set (pasted (set (set b 0 0x00) 1 0x01) 2 (replicate (start - 3) 0xFF)) (start - 1) 0x00 ≡ padded d ++ drop 256 buffer
+  padded-by b same written =
+      let filler : Bytes = replicate (start - 3) 0xFF in
+      let front : Bytes = 0x00 ∷ 0x01 ∷ [] in
+      let count : length filler ≡ start - 3 = length-replicate (start - 3) 0xFF in
+      let left : 253 - length d ≡ start - 3 = omega arith in
+      rw (
+        opened b (omega arith),
+        then-string b front 2 refl (start - 1) (omega arith) filler (omega arith),
+        then-byte b (front ++ filler) (start - 1) (omega arith) start (omega arith) 0x00 (omega arith),
+        written,
+        behind,
+        padded-parts d,
+        left,
+        append-assoc (front ++ filler ++ 0x00 ∷ []) d (drop 256 buffer),
+      )

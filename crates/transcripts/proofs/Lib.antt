@@ -1,4 +1,5 @@
 pub mod Runs
-pub mod Feeding
-pub mod Output
+pub mod Rooms
+pub mod Reading
 pub mod Keeping
+pub mod Output

@@ -1,83 +1,115 @@
--- A line gives at most 518 characters.
-use mathlib.Core.Path.{_≡_}
-use mathlib.Core.Bool.{true, not}
-use mathlib.Core.List.{[], _∷_}
-use Prim.Native.Nat.{ℕ, _≤_}
+-- A line gives at most 518 characters, of the stand-in at most 521.
+use mathlib.Core.Path.{_≡_, refl}
+use mathlib.Core.Bool.{true, _&&_}
+use mathlib.Core.List.{[], _∷_, _++_}
+use Prim.Native.Nat.{ℕ, zero, suc, _≤_, min}
 use native.Mathlib.Omega.{arith}
-use lib.Dec.{eqb, ltb}
-use lib.ListN.{length, take, drop, length-append, length-take}
-use Rattle.octets.specs.Octets.{Bytes, byteAt, same, allBytes, blank}
-use Rattle.octets.proofs.Tests.{split, by-test}
-use Rattle.octets.proofs.Pasting.{length-blank}
-use Rattle.hex.specs.Hex.{isHex, bytesOf}
-use Rattle.hex.proofs.Laws.{length-hexOf, bytesOf-bytes}
+use lib.Dec.{eqb}
+use lib.ListN.{length, take, length-append, length-take}
+use Rattle.octets.specs.Octets.{Bytes, allBytes, blank}
+use Rattle.octets.proofs.Tests.{split, by-test, and-left, and-right}
+use Rattle.hex.specs.Hex.{hexOf}
+use Rattle.hex.proofs.Laws.{length-hexOf}
 use Rattle.rules.specs.declared.Card.{Card}
 use Rattle.rules.specs.Numbers.{Returned, edge, responded, handedOut, wasReset}
-use Rattle.rules.specs.Edge.{Result, command, delivery}
-use Rattle.rules.specs.Counting.{Command, Delivery, step}
+use Rattle.rules.specs.Edge.{command, delivery, powerReset}
+use Rattle.rules.specs.Image.{load}
+use Rattle.rules.specs.Counting.{Call, Command, Delivery, PowerReset, step}
+use Rattle.rules.specs.Demands.{Possible, edgeRefusal, commandResponse, commandJob, deliveryResponse, reset}
 use Rattle.rules.proofs.Demand1.{demand-1}
-use Rattle.lines.specs.Lines.{Request, command-of, delivery-of, reset, other, lineFeed, replyText, said, afterReset}
-use Rattle.lines.specs.Lines.{answerTo, callOf, requestOf, answerLine}
-use Rattle.transcripts.specs.Transcript.{run, ShortOutput}
+use Rattle.lines.specs.declared.Dialect.{Dialect}
+use Rattle.lines.specs.declared.Dialect.the-variants.{Transcript, StandIn}
+use Rattle.lines.specs.Lines.{
+  Request,
+  Setup,
+  lineFeed,
+  mostBuffer,
+  replyText,
+  loadText,
+  answerTo,
+  setupAfter,
+  lineAnswer,
+  answerBuffer,
+  answerLine,
+}
+use Rattle.lines.proofs.Requests.{Cases, every-request}
+use Rattle.transcripts.specs.Transcript.{Program, run, keptLine, mostText, ShortOutput}
 use Rattle.transcripts.proofs.Runs.{at-end, at-feed, at-other, nextLine, oneMore}
 
-reply-short : (r : Returned) (b : Bytes) → length b ≤ 258 → length (replyText r b) ≤ 517
+-- What a call can return is short.
+response-short : (d : Dialect) (n : ℕ) (b : Bytes) → n ≤ 258 → length (replyText d (responded n) b ++ lineFeed ∷ []) ≤ mostText d
 unfolding replyText
-reply-short wasReset b h = omega arith
-reply-short (responded n) b h = omega (arith, length-hexOf (take n b), length-take n b)
-reply-short (handedOut kind key) b h = omega arith
-reply-short (edge n) b h = omega arith
+response-short Transcript n b h = omega (arith, length-append (hexOf (take n b)) (lineFeed ∷ []), length-hexOf (take n b), length-take n b)
+response-short StandIn n b h = omega (arith, length-append (hexOf (take n b)) (lineFeed ∷ []), length-hexOf (take n b), length-take n b)
 
-said-short : (r : Result) → length (r .buffer) ≤ 258 → length (said r .text) ≤ 518
-said-short r h =
-    omega (arith, length-append (replyText (r .returned) (r .buffer)) (lineFeed ∷ []), reply-short (r .returned) (r .buffer) h)
+job-short : (d : Dialect) (kind key : ℕ) (b : Bytes) → length (replyText d (handedOut kind key) b ++ lineFeed ∷ []) ≤ mostText d
+unfolding replyText
+job-short Transcript kind key b = omega arith
+job-short StandIn kind key b = omega (arith, length-append (hexOf (take 256 b)) (lineFeed ∷ []), length-hexOf (take 256 b), length-take 256 b)
 
-module _ (authentication signature : Bytes) (a : allBytes authentication ≡ true) (s : allBytes signature ≡ true) (c : Card) where
+small : (d : Dialect) → 4 ≤ mostText d
+small Transcript = omega arith
+small StandIn = omega arith
+
+reply-short : (d : Dialect) {x : Call} {q : Returned} → Possible x q → (b : Bytes) → length (replyText d q b ++ lineFeed ∷ []) ≤ mostText d
+unfolding replyText
+reply-short d (edgeRefusal x n) b = omega (arith, small d)
+reply-short d (commandResponse apdu authentication signature buffer n l m) b = response-short d n b m
+reply-short d (commandJob apdu authentication signature buffer kind key l m) b = job-short d kind key b
+reply-short d (deliveryResponse result buffer n l m) b = response-short d n b m
+reply-short d reset b = omega (arith, small d)
+
+load-short : (d : Dialect) (n : ℕ) → length (loadText n ++ lineFeed ∷ []) ≤ mostText d
+unfolding loadText
+load-short d n = split (λ (t : Bytes). length (t ++ lineFeed ∷ []) ≤ mostText d) (eqb n 0) (λ _. omega (arith, small d)) (λ _. omega (arith, small d))
+
+blank-bytes : (n : ℕ) → allBytes (blank n) ≡ true
+unfolding blank
+blank-bytes zero = refl
+blank-bytes (suc n) = blank-bytes n
+
+-- A line keeps the certificates strings of bytes, and its text is short.
+abbrev Lent : Setup → Type 0
+Lent s = (allBytes (s .authentication) && allBytes (s .signature)) ≡ true
+
+module _ (d : Dialect) (s : Setup) (e : Lent s) where
   abbrev Short : Request → Type 0
-  Short q = length (answerTo c authentication signature q .text) ≤ 518
+  Short q = (length (lineAnswer d s q .text) ≤ mostText d) × Lent (lineAnswer d s q .setup)
 
-  command-short : (apdu : Bytes) → allBytes apdu ≡ true → Short (command-of apdu)
-  unfolding answerTo step blank
-  command-short apdu e =
-      let x = Command apdu authentication signature (blank 258) in
-      let kept : length (command c apdu authentication signature (blank 258) .buffer) ≡ length (blank 258) = demand-1 .defined c x (rw (e, a, s)) .sized in
-      said-short (command c apdu authentication signature (blank 258)) (omega (arith, kept, length-blank 258))
+  first : allBytes (s .authentication) ≡ true
+  first = and-left (allBytes (s .authentication)) (allBytes (s .signature)) e
 
-  delivery-short : (result : Bytes) → allBytes result ≡ true → Short (delivery-of result)
-  unfolding answerTo step blank
-  delivery-short result e =
-      let x = Delivery result (blank 258) in
-      let kept : length (delivery c result (blank 258) .buffer) ≡ length (blank 258) = demand-1 .defined c x (rw e) .sized in
-      said-short (delivery c result (blank 258)) (omega (arith, kept, length-blank 258))
+  second : allBytes (s .signature) ≡ true
+  second = and-right (allBytes (s .authentication)) (allBytes (s .signature)) e
 
-  other-short : Short other
-  unfolding answerTo
-  other-short = omega arith
+  short : Cases Short
+  unfolding answerTo setupAfter step
+  short = record {
+    resets = (reply-short d (demand-1 .defined (s .card) PowerReset refl .possible) [], e);
+    sizes = λ n. (omega (arith, small d), e);
+    others = (omega (arith, small d), e);
+    commands = λ b f h.
+        let x = Command b (s .authentication) (s .signature) (answerBuffer s) in
+        (reply-short d (demand-1 .defined (s .card) x (rw (f, first, second, blank-bytes (min (s .buffer) mostBuffer))) .possible) _, e);
+    deliveries = λ b f h.
+        let x = Delivery b (answerBuffer s) in
+        (reply-short d (demand-1 .defined (s .card) x (rw (f, blank-bytes (min (s .buffer) mostBuffer))) .possible) _, e);
+    images = λ b f h. (load-short d (load b .0), e);
+    authentications = λ b f h. (omega (arith, small d), rw (f, second));
+    signatures = λ b f h. (omega (arith, small d), rw (first, f));
+  }
 
-  reset-short : Short reset
-  unfolding answerTo
-  reset-short = said-short (afterReset c) (omega (arith, length-blank 258))
-
-  call-short : (letter : ℕ) (d : Bytes) → allBytes d ≡ true → Short (callOf letter d)
-  unfolding callOf
-  call-short letter d e =
-      split Short (eqb letter 0x43) (λ _. command-short d e) (λ _. split Short (eqb letter 0x44) (λ _. delivery-short d e) (λ _. other-short))
-
-  line-short : (line : Bytes) → length (answerLine c authentication signature line .text) ≤ 518
-  unfolding requestOf
-  line-short line =
-      split Short (ltb 1024 (length line)) (λ _. other-short)
-      (λ _. split Short (same line (0x50 ∷ [])) (λ _. reset-short)
-      (λ _. split Short (not (isHex (drop 1 line))) (λ _. other-short)
-      (λ _. call-short (byteAt line 0) (bytesOf (drop 1 line)) (bytesOf-bytes (drop 1 line)))))
+  line-short : (line : Bytes) → (length (answerLine d s line .text) ≤ mostText d) × Lent (answerLine d s line .setup)
+  line-short = every-request Short short d
 
 pub short-output : ShortOutput
-short-output authentication signature a s p [] = rw (at-end authentication signature p) (omega arith)
-short-output authentication signature a s p (x ∷ b) =
+short-output d p e [] = rw (at-end d (keptLine d) p) (omega arith)
+short-output d p e (x ∷ b) =
     by-test _ (eqb x lineFeed)
-    (λ e.
-    let text = answerLine (p .card) authentication signature (p .line) .text in
-    let rest = short-output authentication signature a s (nextLine authentication signature p) b in
-    rw (at-feed authentication signature p x b e)
-    (omega (arith, length-append text (run authentication signature (nextLine authentication signature p) b .text), line-short authentication signature a s (p .card) (p .line), rest)))
-    (λ e. rw (at-other authentication signature p x b e) (omega (arith, short-output authentication signature a s (oneMore authentication signature p x) b)))
+    (λ f.
+    let line = line-short d (p .setup) e (p .line) in
+    let rest = short-output d (nextLine d p) (line .1) b in
+    let text = answerLine d (p .setup) (p .line) .text in
+    rw (at-feed d (keptLine d) p x b f)
+    (omega (arith, length-append text (run d (nextLine d p) b .text), line .0, rest)))
+    (λ f. rw (at-other d (keptLine d) p x b f) (omega (arith, short-output d (oneMore d (keptLine d) p x) e b)))

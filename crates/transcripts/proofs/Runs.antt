@@ -14,9 +14,10 @@ use borrow.Author.Tests.{eqb-true, eq-eqb, ne-eqb}
 use Rattle.octets.proofs.Cutting.{cut-front}
 use Rattle.octets.specs.Octets.{Bytes, byteAt}
 use Rattle.octets.proofs.Tests.{by-test}
-use Rattle.lines.specs.Lines.{Said, lineFeed}
-use Rattle.transcripts.specs.Transcript.{Program, Run, longer, writtenBefore, atLineEnd, runWith, run, lastLine}
-use Rattle.transcripts.specs.Held.{lineLength}
+use Rattle.lines.specs.declared.Dialect.{Dialect}
+use Rattle.lines.specs.Lines.{LineAnswer, lineFeed, longest}
+use Rattle.transcripts.specs.Transcript.{Program, Run, writtenBefore, atLineEnd, runWith, keptLine, run}
+use Rattle.transcripts.specs.Consoles.{lineLength}
 
 -- The characters before the first line feed: none is left, the one at the index is a line feed, or it is another.
 module _ (s : Bytes) (i : ℕ) where
@@ -29,56 +30,61 @@ module _ (s : Bytes) (i : ℕ) where
   pub count-more : i < length s → byteAt s i ≢ lineFeed → lineLength (drop i s) ≡ suc (lineLength (drop (i + 1) s))
   count-more h n = rw (add-one, drop-cons s i 0 h, ne-eqb _ _ n)
 
-module _ (authentication signature : Bytes) where
-  abbrev answered : Program → Said
-  answered = atLineEnd authentication signature
-
-  abbrev reading : Program → Bytes → Run
-  reading = run authentication signature
+module _ (d : Dialect) where
+  abbrev answered : Program → LineAnswer
+  answered = atLineEnd d
 
   abbrev pub nextLine : Program → Program
-  nextLine p = record { card = answered p .card; line = [] }
+  nextLine p = record { setup = answered p .setup; line = [] }
 
-  abbrev pub oneMore : Program → ℕ → Program
-  oneMore p x = record { card = p .card; line = longer (p .line) (x ∷ []) }
+  -- Whatever is kept of a line.
+  module _ (kept : Bytes → Bytes) where
+    abbrev reading : Program → Bytes → Run
+    reading = runWith d kept
 
-  pub at-feed : (p : Program) (x : ℕ) (b : Bytes) → eqb x lineFeed ≡ true → reading p (x ∷ b) ≡ writtenBefore (answered p .text) (reading (nextLine p) b)
-  unfolding runWith
-  at-feed p x b e = rw e
+    abbrev pub oneMore : Program → ℕ → Program
+    oneMore p x = record { setup = p .setup; line = kept (p .line ++ x ∷ []) }
 
-  pub at-other : (p : Program) (x : ℕ) (b : Bytes) → eqb x lineFeed ≡ false → reading p (x ∷ b) ≡ reading (oneMore p x) b
-  unfolding runWith
-  at-other p x b e = rw e
+    pub at-feed : (p : Program) (x : ℕ) (b : Bytes) → eqb x lineFeed ≡ true → reading p (x ∷ b) ≡ writtenBefore (answered p .text) (reading (nextLine p) b)
+    unfolding runWith
+    at-feed p x b e = rw e
 
-  pub at-end : (p : Program) → reading p [] ≡ record { program = p; text = [] }
-  unfolding runWith
-  at-end p = refl
+    pub at-other : (p : Program) (x : ℕ) (b : Bytes) → eqb x lineFeed ≡ false → reading p (x ∷ b) ≡ reading (oneMore p x) b
+    unfolding runWith
+    at-other p x b e = rw e
 
-  -- An input read in two parts.
-  pub run-append : (p : Program) (a b : Bytes) → reading p (a ++ b) ≡ writtenBefore (reading p a .text) (reading (reading p a .program) b)
-  run-append p [] b = rw (at-end p)
-  run-append p (x ∷ a) b =
-      by-test _ (eqb x lineFeed)
-      (λ e. rw (at-feed p x (a ++ b) e, at-feed p x a e, run-append (nextLine p) a b, append-assoc))
-      (λ e. rw (at-other p x (a ++ b) e, at-other p x a e) (run-append (oneMore p x) a b))
+    pub at-end : (p : Program) → reading p [] ≡ record { program = p; text = [] }
+    unfolding runWith
+    at-end p = refl
+
+    -- An input read in two parts.
+    pub run-append : (p : Program) (a b : Bytes) → reading p (a ++ b) ≡ writtenBefore (reading p a .text) (reading (reading p a .program) b)
+    run-append p [] b = rw (at-end p)
+    run-append p (x ∷ a) b =
+        by-test _ (eqb x lineFeed)
+        (λ e. rw (at-feed p x (a ++ b) e, at-feed p x a e, run-append (nextLine p) a b, append-assoc))
+        (λ e. rw (at-other p x (a ++ b) e, at-other p x a e) (run-append (oneMore p x) a b))
+
+  abbrev most : ℕ
+  most = suc (longest d)
 
   -- A program that has read more characters, none of them a line feed.
-  abbrev further : Program → Bytes → Run
-  further p d = record { program = record { card = p .card; line = longer (p .line) d }; text = [] }
+  abbrev pub further : Program → Bytes → Program
+  further p b = record { setup = p .setup; line = keptLine d (p .line ++ b) }
 
-  none-further : (p : Program) → length (p .line) ≤ 1025 → reading p [] ≡ further p []
-  none-further p h = rw (at-end p, append-nil (p .line), take-all 1025 (p .line) h)
+  none-further : (p : Program) → length (p .line) ≤ most → run d p [] ≡ record { program = further p []; text = [] }
+  none-further p h = rw (at-end (keptLine d) p, append-nil (p .line), take-all most (p .line) h)
 
-  pub run-plain : (p : Program) (b : Bytes) → length (p .line) ≤ 1025 → reading p (take (lineLength b) b) ≡ further p (take (lineLength b) b)
+  pub run-plain : (p : Program) (b : Bytes) → length (p .line) ≤ most → run d p (take (lineLength b) b) ≡ record { program = further p (take (lineLength b) b); text = [] }
   run-plain p [] h = none-further p h
   run-plain p (x ∷ b) h =
       by-test _ (eqb x lineFeed)
       (λ e. rw e (none-further p h))
       (λ e.
-      let d : Bytes = take (lineLength b) b in
-      let size : length (longer (p .line) (x ∷ [])) ≤ 1025 = omega (arith, length-take 1025 (p .line ++ x ∷ [])) in
-      let joined : longer (longer (p .line) (x ∷ [])) d ≡ longer (p .line) (x ∷ d) = cut-front 1025 (p .line ++ x ∷ []) d ∙ ap (take 1025) (append-assoc (p .line) (x ∷ []) d) in
-      rw (e, at-other p x d e, run-plain (oneMore p x) b size, joined))
+      let c : Bytes = take (lineLength b) b in
+      let size : length (keptLine d (p .line ++ x ∷ [])) ≤ most = omega (arith, length-take most (p .line ++ x ∷ [])) in
+      let joined : keptLine d (keptLine d (p .line ++ x ∷ []) ++ c) ≡ keptLine d (p .line ++ (x ∷ c)) = cut-front most (p .line ++ x ∷ []) c ∙ ap (take most) (append-assoc (p .line) (x ∷ []) c) in
+      rw (e, at-other (keptLine d) p x c e, run-plain (oneMore (keptLine d) p x) b size, joined))
 
   -- The character after them, if there is one, is a line feed.
   feed-next : (b : Bytes) → lineLength b < length b → byteAt b (lineLength b) ≡ lineFeed
@@ -89,28 +95,18 @@ module _ (authentication signature : Bytes) where
       (λ e. rw e (feed-next b (le-of-suc-le-suc (rw e at h))))
 
   -- A line with its line feed.
-  pub run-line : (p : Program) (b : Bytes) → length (p .line) ≤ 1025 → lineLength b < length b
-      → reading p (take (lineLength b + 1) b)
-      ≡ record { program = nextLine (further p (take (lineLength b) b) .program); text = answered (further p (take (lineLength b) b) .program) .text }
+  pub run-line : (p : Program) (b : Bytes) → length (p .line) ≤ most → lineLength b < length b
+      → run d p (take (lineLength b + 1) b)
+      ≡ record { program = nextLine (further p (take (lineLength b) b)); text = answered (further p (take (lineLength b) b)) .text }
   run-line p b h k =
       let n : ℕ = lineLength b in
       rw (
         add-one,
         take-suc b n 0 k,
         feed-next b k,
-        run-append p (take n b) (lineFeed ∷ []),
+        run-append (keptLine d) p (take n b) (lineFeed ∷ []),
         run-plain p b h,
-        at-feed (further p (take n b) .program) lineFeed [] refl,
-        at-end (nextLine (further p (take n b) .program)),
+        at-feed (keptLine d) (further p (take n b)) lineFeed [] refl,
+        at-end (keptLine d) (nextLine (further p (take n b))),
         append-nil,
       )
-
-  -- A last line that did not end.
-  module _ (p : Program) {d : Bytes} (e : d ≡ p .line) where
-    pub no-last-line : length d ≡ 0 → [] ≡ lastLine authentication signature p
-    unfolding lastLine
-    no-last-line h = simp (← e, eq-eqb (length d) 0 h)
-
-    pub last-line-answered : length d ≢ 0 → answered p .text ≡ lastLine authentication signature p
-    unfolding lastLine
-    last-line-answered h = rw (← e, ne-eqb (length d) 0 h)

@@ -1,2 +1,2 @@
 pub mod Transcript
-pub mod Held
+pub mod Consoles

@@ -1,19 +1,14 @@
 //! generate-images SEED N: N card images, one hex line each.
 
 use second::generate::Random;
+use second::program::run_generator;
 use second::{hex, images};
-use std::io::{self, Write};
+use std::iter;
+use std::process::ExitCode;
 
-fn main() -> io::Result<()> {
-    let numbers: Vec<u64> = std::env::args().skip(1).filter_map(|text| text.parse().ok()).collect();
-    let [seed, n] = numbers[..] else {
-        eprintln!("usage: generate-images SEED N");
-        std::process::exit(2);
-    };
-    let mut random = Random(seed);
-    let mut out = io::BufWriter::new(io::stdout().lock());
-    for _ in 0..n {
-        writeln!(out, "{}", hex::encode(&images::image(&mut random)))?;
-    }
-    out.flush()
+fn main() -> ExitCode {
+    run_generator("generate-images", |seed, _| {
+        let mut random = Random(seed);
+        iter::repeat_with(move || hex::encode(&images::image(&mut random)).into_bytes())
+    })
 }

@@ -1,13 +1,9 @@
 //! second-pad: lines `p <hex of data> <buffer length>` or `s <hex of block>`.
 
+use second::lines::run_with;
 use second::pad_lines::answer;
-use second::transcript::for_each_line;
-use std::io::{self, Write};
+use std::io;
 
 fn main() -> io::Result<()> {
-    let mut out = io::stdout().lock();
-    for_each_line(io::stdin().lock(), 1 << 20, |line| {
-        writeln!(out, "{}", answer(line))?;
-        out.flush()
-    })
+    run_with(1 << 20, answer, io::stdin().lock(), io::stdout().lock())
 }

@@ -23,6 +23,9 @@ returns-2 c =
 sub-start : tie.Need-sub-start
 sub-start c = search needs
 
+move-at-requires : tie.Need-move-at-requires
+move-at-requires c κs = search needs
+
 slice-write-buffer : tie.Need-slice-write-buffer
 slice-write-buffer c = search needs
 
@@ -39,13 +42,10 @@ sub-buffer : tie.Need-sub-buffer
 sub-buffer c = search needs
 
 slice-write-buffer-3 : tie.Need-slice-write-buffer-3
-slice-write-buffer-3 c = omega (arith, simp length-set at (c .before .buffer .given))
-
-copy-at-requires : tie.Need-copy-at-requires
-copy-at-requires c κs = search needs
+slice-write-buffer-3 c = omega (arith, simp length-set at (c .before .buffer2 .given))
 
 same-length : tie.Need-same-length
-same-length c = omega (arith, simp length-set at (c .before .before .before .before .before .buffer .given), simp length-set at (c .before .buffer2 .given))
+same-length c = simp length-set (omega (arith, simp length-set at (c .before .buffer2 .given)))
 
 returns-3 : tie.Need-returns-3
 returns-3 c =
@@ -54,7 +54,7 @@ returns-3 c =
     let b : Bytes = now (s .buffer) in
     let few : length d ≤ 245 = omega arith in
     let room : 256 ≤ length b = omega arith in
-    ap (λ (w : Bytes). (256, w)) (c .before .before .copy-at .ensures ∙ rw (c .before .before .before .before .before .before .fill .ensures) (padded-by d b (256 - length d) refl few room))
+    ap (λ (w : Bytes). (256, w)) (rw (c .before .before .fill .ensures) (padded-by d b (256 - length d) refl few room _ (omega arith) (c .before .before .before .before .before .before .move-at .ensures)))
     ∙ sym (pad-writes d b few room)
 
 pub shoalpennant-pad-spec : {M : Type 1} → statement M
@@ -64,12 +64,12 @@ shoalpennant-pad-spec =
     returns
     returns-2
     sub-start
+    move-at-requires
     slice-write-buffer
     slice-write-buffer-2
     sub-fill
     fill-requires
     sub-buffer
     slice-write-buffer-3
-    copy-at-requires
     same-length
     returns-3)

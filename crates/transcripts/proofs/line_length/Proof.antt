@@ -4,7 +4,7 @@ use native.Mathlib.Nat.{zero-add}
 use native.Mathlib.Omega.{arith}
 use lib.ListN.{length, drop}
 use denote.Ref.{now}
-use Rattle.transcripts.specs.Held.{lineLength}
+use Rattle.transcripts.specs.Consoles.{lineLength}
 use Rattle.transcripts.proofs.Runs.{count-end, count-stop, count-more}
 use Rattle.transcripts.proofs.line_length.Statement.{statement}
 use Rattle.transcripts.proofs.line_length.Tie as tie

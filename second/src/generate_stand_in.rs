@@ -1,0 +1,654 @@
+//! A generator of lines for the stand-in program: sessions on cards, certificates
+//! and buffers of every kind, with the commands of `generate`.
+
+use crate::generate::{Generator, Played, Random};
+use crate::images::{self, Fault, Parts};
+use crate::lines::LineProgram;
+use crate::stand_in::{StandIn, LARGEST_BUFFER};
+use crate::state::*;
+use crate::{hex, CardState};
+
+const SMALLEST_BUFFER: usize = 258;
+const LONGEST_CERTIFICATE: usize = 1536;
+/// The most bytes that a line has room for.
+const MOST_BYTES: usize = 2047;
+
+#[derive(Clone)]
+pub struct PlayedStandIn {
+    stand_in: StandIn,
+    /// The next session begins when so many lines are made.
+    session_ends: usize,
+    /// Whether a command that would block PUK is held back, because nothing unblocks PUK.
+    spares_puk: bool,
+    /// Goes through the faults.
+    turn: usize,
+}
+
+impl Generator<PlayedStandIn> {
+    /// Begins with the card that the program starts with, and certificates as long as the program's.
+    pub fn for_stand_in(seed: u64) -> Self {
+        let certificate = vec![0x30; LONGEST_CERTIFICATE];
+        let played = PlayedStandIn {
+            stand_in: StandIn::new(certificate.clone(), certificate),
+            session_ends: 40,
+            spares_puk: true,
+            turn: seed as usize,
+        };
+        Self::on(played, seed)
+    }
+}
+
+impl Played for PlayedStandIn {
+    fn play(&mut self, line: &[u8]) {
+        self.stand_in.line(line);
+    }
+
+    fn card(&self) -> &CardState {
+        self.stand_in.card()
+    }
+
+    fn holds_back(generator: &Generator<Self>, after: &Self) -> bool {
+        let has_tries = |played: &Self| played.card().codes[PUK].tries > 0;
+        after.spares_puk && has_tries(&generator.session) && !has_tries(after)
+    }
+
+    fn malformed(r: &mut Random) -> Vec<u8> {
+        match r.below(9) {
+            0 | 1 => spoiled_hex(r),
+            2 => other_buffer(r),
+            3 | 4 => too_long(r),
+            5 => {
+                let n = r.below(40);
+                r.bytes(n).into_iter().filter(|byte| *byte != b'\n').collect()
+            }
+            6 => {
+                let letter = r.pick(b"EFGHIJKMNOQRTUVWXYZlascdbp0123456789?.- ");
+                let n = r.below(4);
+                line_of(letter, &r.bytes(n))
+            }
+            _ => r.pick(&OTHER_LINES).to_vec(),
+        }
+    }
+
+    fn interruption(generator: &mut Generator<Self>) {
+        match generator.random.below(10) {
+            0..=3 => generator.single_interruption(),
+            4 | 5 => generator.small_buffer(),
+            6 | 7 => generator.bad_certificate(),
+            8 => generator.lend_good(),
+            _ => generator.large_buffer(),
+        }
+    }
+
+    fn before_delivery(generator: &mut Generator<Self>) {
+        match generator.random.below(10) {
+            0 => Self::interruption(generator),
+            1 | 2 => generator.plain_command(),
+            3 => generator.step(),
+            4 | 5 if generator.session.session_ends < generator.made + 10 => generator.next_session(),
+            _ => {}
+        }
+    }
+
+    fn read(generator: &mut Generator<Self>) {
+        let stand_in = &generator.session.stand_in;
+        let certificate = match stand_in.card().file {
+            Some(File::AuthenticationCertificate) => Some(stand_in.authentication().len()),
+            Some(File::SignatureCertificate) => Some(stand_in.signature().len()),
+            _ => None,
+        };
+        match certificate {
+            Some(length) if !generator.random.percent(8) => generator.read_part(length),
+            None if generator.random.percent(8) => generator.read_part(LONGEST_CERTIFICATE),
+            _ => generator.read_record(),
+        }
+    }
+
+    fn scenario(generator: &mut Generator<Self>) {
+        if generator.made >= generator.session.session_ends {
+            generator.next_session();
+            return;
+        }
+        generator.step();
+        if generator.session.card().job.is_some() && generator.random.percent(70) {
+            generator.deliver();
+        }
+    }
+}
+
+impl Generator<PlayedStandIn> {
+    /// A card that load refuses, or a session on a good one.
+    fn next_session(&mut self) {
+        self.session.spares_puk = false;
+        if self.random.percent(50) {
+            self.refused_card();
+        } else {
+            self.good_card();
+        }
+    }
+
+    fn good_card(&mut self) {
+        let image = Parts::valid(&mut self.random).bytes();
+        self.call(b'L', &image);
+        if self.random.percent(15) {
+            // Nothing of the card before is left.
+            self.call(b'D', &[0; 256]);
+            self.call(b'C', &[0x00, 0xC0, 0x00, 0x00, 0x00]);
+        }
+        if self.random.percent(10) {
+            self.edge_order();
+        }
+        self.make_usable();
+        let (least, most) = match self.random.below(100) {
+            0..=61 => (5, 15),
+            62..=87 => (20, 80),
+            88..=97 => (100, 400),
+            _ => (1000, 3000),
+        };
+        self.session.session_ends = self.made + self.random.between(least, most);
+        self.session.spares_puk = self.random.percent(75);
+    }
+
+    /// Lends and sizes anew what would only be refused.
+    fn make_usable(&mut self) {
+        let good = 1..=LONGEST_CERTIFICATE;
+        if !good.contains(&self.session.stand_in.authentication().len()) || self.random.percent(25) {
+            self.lend_good_as(b'A');
+        }
+        if !good.contains(&self.session.stand_in.signature().len()) || self.random.percent(25) {
+            self.lend_good_as(b'S');
+        }
+        if self.session.stand_in.buffer_length() < SMALLEST_BUFFER {
+            self.large_buffer();
+        }
+    }
+
+    fn refused_card(&mut self) {
+        let image = self.damaged_image();
+        self.call(b'L', &image);
+        for _ in 0..self.random.between(1, 5) {
+            self.line_for_refused_card();
+        }
+        self.session.session_ends = self.made;
+    }
+
+    /// Mostly the next fault in turn, or one of a number in turn.
+    fn damaged_image(&mut self) -> Vec<u8> {
+        let faults = Fault::all();
+        let turn = self.session.turn;
+        self.session.turn += 1;
+        let r = &mut self.random;
+        match r.below(20) {
+            0..=4 => images::with_fault(r, faults[turn % faults.len()]),
+            5..=9 => {
+                let number = 22 + (turn % 6) as u8;
+                let alike: Vec<Fault> = faults.into_iter().filter(|fault| fault.number() == number).collect();
+                let fault = r.pick(&alike);
+                images::with_fault(r, fault)
+            }
+            10 | 11 => images::with_two_faults(r),
+            12..=15 => images::cut_short(r),
+            16 | 17 => {
+                let image = Parts::valid(r).bytes();
+                images::mutated(r, image)
+            }
+            18 => {
+                let length = r.pick(&[1116, MOST_BYTES - 1, MOST_BYTES]);
+                images::filled_up(r, length)
+            }
+            _ => {
+                let n = r.pick(&[0, 0, 1, 84, 1115, MOST_BYTES]);
+                r.bytes(n)
+            }
+        }
+    }
+
+    fn line_for_refused_card(&mut self) {
+        match self.random.below(12) {
+            0 | 1 => self.line(b"P".to_vec()),
+            2..=5 => self.plain_command(),
+            6 | 7 => self.plain_delivery(),
+            8 => {
+                let length = self.random.pick(&[0, 257, SMALLEST_BUFFER, LARGEST_BUFFER]);
+                self.buffer(length);
+            }
+            9 => {
+                let letter = self.random.pick(b"AS");
+                let length = self.random.pick(&[0, 1, LONGEST_CERTIFICATE, LONGEST_CERTIFICATE + 1]);
+                self.lend(letter, length);
+            }
+            10 => self.malformed(),
+            _ => {
+                let image = self.damaged_image();
+                self.call(b'L', &image);
+            }
+        }
+    }
+
+    fn step(&mut self) {
+        match self.random.below(100) {
+            0..=3 => self.malformed(),
+            4 => self.line(b"P".to_vec()),
+            5..=7 => self.noise(),
+            8..=11 => self.select(),
+            12..=16 => self.browse(),
+            17 | 18 => self.read_personal_records(),
+            19..=24 => PlayedStandIn::read(self),
+            25 | 26 => self.get_responses(),
+            27..=31 => {
+                let code = self.any_code();
+                self.verify(code, 75);
+            }
+            32..=35 => self.change(),
+            36..=38 => {
+                let pin = self.random.pick(&[PIN1, PIN2]);
+                self.unblock(pin);
+            }
+            39..=41 => self.block_and_unblock(),
+            42 | 43 => self.open_and_look(),
+            44 => self.read_code_records(),
+            45..=47 => self.environment(),
+            48..=50 => self.choose_key(),
+            51..=53 => {
+                let kind = self.random.pick(&[AUTHENTICATE, SIGN, DECIPHER]);
+                self.choose_own_key(kind);
+            }
+            54..=56 => self.authenticate(),
+            57..=60 => self.sign(),
+            61..=65 => self.decipher(),
+            66..=87 => self.use_own_key(),
+            88 | 89 => self.lend_and_read(),
+            90 => self.large_buffer(),
+            91 | 92 => self.small_buffer(),
+            93 | 94 => self.bad_certificate(),
+            95 => self.edge_order(),
+            96 => self.malformed_and_looked_for(),
+            97 | 98 => self.longest_lines(),
+            _ => self.plain_delivery(),
+        }
+    }
+
+    // Cards
+
+    /// A key operation with a key of the card, chosen or active.
+    fn use_own_key(&mut self) {
+        let kind = self.random.pick(&[AUTHENTICATE, SIGN, DECIPHER]);
+        let pin = if kind == SIGN { PIN2 } else { PIN1 };
+        if self.random.percent(85) {
+            let environment = if kind == DECIPHER { 6 } else { 1 };
+            self.send(0x00, 0x22, 0xF3, environment, &[], None);
+        }
+        if self.random.percent(75) {
+            self.choose_own_key(kind);
+        }
+        if self.session.card().codes[pin].tries == 0 && self.random.percent(80) {
+            self.unblock(pin);
+        }
+        if self.random.percent(95) {
+            self.verify(pin, 97);
+        }
+        match kind {
+            AUTHENTICATE => self.internal_authenticate(),
+            SIGN => self.sign_digest(),
+            _ => self.decipher_parts(),
+        }
+    }
+
+    /// Mostly a key of the card; else one that it has not, or of the wrong class, or unknown.
+    fn choose_own_key(&mut self, kind: u8) {
+        let class = class_for(kind);
+        let known = [0x0100u16, 0x0200, 0x1100, 0x1200];
+        let (fitting, wrong): (Vec<u16>, Vec<u16>) = known.iter().partition(|key| key_class(**key) == Some(class));
+        let (present, absent): (Vec<u16>, Vec<u16>) = fitting.iter().partition(|key| self.session.card().has_key(**key));
+        let r = &mut self.random;
+        let key = match r.below(20) {
+            0 | 1 => None,
+            2 => Some(r.pick(&wrong)),
+            3 => Some(r.pick(&[0x0000, 0x0101, 0x1101, 0x0300, 0x1300, 0x0001, 0x0011, 0xFFFF])),
+            4 | 5 if !absent.is_empty() => Some(r.pick(&absent)),
+            _ => Some(r.pick(&present)),
+        };
+        let data = match key.map(u16::to_be_bytes) {
+            None => vec![0x83, 0x00],
+            Some([high, low]) => vec![0x83, 0x03, 0x80, high, low],
+        };
+        let p2 = [0xA4, 0xB6, 0xB8][kind as usize - 1];
+        self.send(0x00, 0x22, 0x41, p2, &data, None);
+    }
+
+    /// Opens a code, does what may close it, and asks for the mark.
+    fn open_and_look(&mut self) {
+        let code = self.random.below(3);
+        let pin = self.random.pick(&[PIN1, PIN2]);
+        self.verify(code, 100);
+        match self.random.below(6) {
+            0 => {
+                let n = self.random.between(shortest_code(code), LONGEST_CODE);
+                self.present_and_store(0x24, code, code, n);
+            }
+            1 => self.present_and_store(0x24, code, code, shortest_code(code) - 1),
+            2 => self.verify(code, 0),
+            3 => {
+                self.block(pin);
+                self.present_and_store(0x2C, PUK, pin, LONGEST_CODE);
+            }
+            4 => {
+                self.block(pin);
+                self.send(0x00, 0x2C, 0x03, pin as u8, &[], None);
+            }
+            _ => {}
+        }
+        match code {
+            PUK => {
+                self.block(pin);
+                self.send(0x00, 0x2C, 0x03, pin as u8, &[], None);
+            }
+            PIN1 => self.internal_authenticate(),
+            _ => self.sign_digest(),
+        }
+    }
+
+    /// CHANGE or RESET RETRY with the right code and a new value of so many digits.
+    fn present_and_store(&mut self, instruction: u8, presented: usize, code: usize, n: usize) {
+        let mut data = self.stored(presented);
+        data.extend(self.random.digits(n));
+        self.send(0x00, instruction, 0x00, code as u8, &data, None);
+    }
+
+    /// Wrong values until the code has no tries.
+    fn block(&mut self, pin: usize) {
+        for _ in 0..self.session.card().codes[pin].tries {
+            self.call(b'C', &[0x00, 0x20, 0x00, pin as u8, 0x01, 0x00]);
+        }
+    }
+
+    /// All of them, or those from a place on.
+    fn read_personal_records(&mut self) {
+        self.choose_file([0x50, 0x44]);
+        for number in self.random.between(1, RECORDS)..=RECORDS {
+            let length = self.session.card().records[number - 1].length as u8;
+            let le = self.random.pick(&[Some(0), Some(0), Some(length), Some(length), Some(length - 1), None]);
+            self.send(0x00, 0xB2, number as u8, 0x04, &[], le);
+        }
+    }
+
+    /// A file of EEEEh.
+    fn choose_file(&mut self, file: [u8; 2]) {
+        self.send(0x00, 0xA4, 0x00, 0x0C, &[], None);
+        self.send(0x00, 0xA4, 0x01, 0x0C, &[0xEE, 0xEE], None);
+        self.send(0x00, 0xA4, 0x02, 0x0C, &file, None);
+    }
+
+    /// A record of the current file, with a Le around its length.
+    fn read_record(&mut self) {
+        let card = self.session.card();
+        let lengths: Vec<usize> = match card.file {
+            Some(File::CodeRecords) => vec![10, 10, 6],
+            Some(File::KeyReferences) => vec![REFERENCES],
+            _ => card.records.iter().map(|record| record.length).collect(),
+        };
+        let last = lengths.len();
+        let any = self.random.between(1, last);
+        let number = self.random.pick(&[0, 1, last, last + 1, 255, any, any, any, any, any, any]);
+        let length = lengths.get(number.wrapping_sub(1)).copied().unwrap_or(0);
+        let le = self.le_near(length);
+        self.send(0x00, 0xB2, number as u8, 0x04, &[], le);
+        self.get_responses();
+    }
+
+    /// A part of a certificate of this length, with a Le around what remains.
+    fn read_part(&mut self, length: usize) {
+        let r = &mut self.random;
+        let inside = r.below(length.max(1));
+        let outside = r.between(length, 0x7FFF);
+        let near_end = length.saturating_sub(r.pick(&[0, 1, 2, 254, 255, 256, 257]));
+        let offset = r.pick(&[0, 0, 1, 255, 256, inside, inside, inside, near_end, near_end, length + 1, outside, 0x7FFF, 0x8000]);
+        let le = self.le_near(length.saturating_sub(offset));
+        let [p1, p2] = (offset as u16).to_be_bytes();
+        self.send(0x00, 0xB0, p1, p2, &[], le);
+    }
+
+    /// Mostly one less, the number itself or one more, where a Le can say it.
+    fn le_near(&mut self, n: usize) -> Option<u8> {
+        let r = &mut self.random;
+        let any = r.byte();
+        let near = match r.pick(&[n.saturating_sub(1), n, n + 1]) {
+            near @ 1..=256 => near as u8,
+            _ => any,
+        };
+        r.pick(&[Some(near), Some(near), Some(near), Some(0), Some(0), Some(1), Some(0xFF), Some(any), None])
+    }
+
+    // Certificates
+
+    fn lend(&mut self, letter: u8, length: usize) {
+        let certificate = self.random.bytes(length);
+        self.call(letter, &certificate);
+    }
+
+    fn lend_good(&mut self) {
+        let letter = self.random.pick(b"AS");
+        self.lend_good_as(letter);
+    }
+
+    fn lend_good_as(&mut self, letter: u8) {
+        let any = self.random.between(1, LONGEST_CERTIFICATE);
+        let length = self.random.pick(&[1, 1, 200, 255, 256, 257, 1535, 1536, 1536, any, any]);
+        self.lend(letter, length);
+    }
+
+    fn lend_and_read(&mut self) {
+        let letter = self.random.pick(b"AS");
+        self.lend_good_as(letter);
+        self.read_certificate(letter);
+    }
+
+    fn read_certificate(&mut self, letter: u8) {
+        self.choose_file(if letter == b'A' { [0xAA, 0xCE] } else { [0xDD, 0xCE] });
+        for _ in 0..self.random.between(1, 4) {
+            PlayedStandIn::read(self);
+        }
+    }
+
+    /// Commands with an empty or too long certificate, then a good one again.
+    fn bad_certificate(&mut self) {
+        let letter = self.random.pick(b"AS");
+        self.lend_bad(letter);
+        self.plain_calls();
+        self.lend_good_as(letter);
+    }
+
+    fn lend_bad(&mut self, letter: u8) {
+        let any = self.random.between(LONGEST_CERTIFICATE + 1, MOST_BYTES);
+        let length = self.random.pick(&[0, 0, 0, LONGEST_CERTIFICATE + 1, LONGEST_CERTIFICATE + 1, any, MOST_BYTES]);
+        self.lend(letter, length);
+    }
+
+    // Buffers
+
+    fn buffer(&mut self, length: usize) {
+        self.line(format!("B{length}").into_bytes());
+    }
+
+    fn large_buffer(&mut self) {
+        let any = self.random.between(SMALLEST_BUFFER, LARGEST_BUFFER);
+        let length = self.random.pick(&[258, 258, 259, 260, 4095, 4096, 4096, any]);
+        self.buffer(length);
+    }
+
+    /// Calls with a small buffer, then a large one again.
+    fn small_buffer(&mut self) {
+        let any = self.random.below(SMALLEST_BUFFER);
+        let length = self.random.pick(&[0, 0, 2, 255, 256, 257, 257, any]);
+        self.buffer(length);
+        self.plain_calls();
+        if self.random.percent(30) {
+            let line = other_buffer(&mut self.random);
+            self.line(line);
+            self.plain_command();
+        }
+        self.large_buffer();
+    }
+
+    /// Edge refusals that would hold at once, taken away one after the other.
+    fn edge_order(&mut self) {
+        let letter = self.random.pick(b"AS");
+        let small = self.random.pick(&[0, 256, 257]);
+        self.buffer(small);
+        self.lend_bad(letter);
+        self.plain_calls();
+        self.large_buffer();
+        self.plain_command();
+        self.plain_calls();
+        self.lend_good_as(letter);
+        self.plain_calls();
+    }
+
+    // Calls by themselves, whatever the card and the edge make of them
+
+    fn plain_calls(&mut self) {
+        for _ in 0..self.random.between(1, 3) {
+            match self.random.below(10) {
+                0..=5 => self.plain_command(),
+                6..=8 => self.plain_delivery(),
+                _ => self.line(b"P".to_vec()),
+            }
+        }
+    }
+
+    fn plain_command(&mut self) {
+        let code = self.any_code();
+        let mut right = self.session.card().codes[code].value.get().to_vec();
+        right.insert(0, right.len() as u8);
+        let verify = [&[0x00, 0x20, 0x00, code as u8][..], &right].concat();
+        let commands = [
+            verify,
+            vec![0x00, 0x20, 0x00, 0x01, 0x04, 0x39, 0x39, 0x39, 0x39],
+            vec![0x00, 0xA4, 0x00, 0x0C],
+            vec![0x00, 0xC0, 0x00, 0x00, 0x00],
+            vec![0x00, 0xB0, 0x00, 0x00, 0x00],
+            vec![0x00, 0xB2, 0x01, 0x04, 0x00],
+            vec![0x00, 0x22, 0xF3, 0x06],
+            vec![0x00, 0x88, 0x00, 0x00, 0x01, 0x5A, 0x00],
+            vec![0x10, 0x2A, 0x80, 0x86, 0x01, 0x00],
+            vec![],
+        ];
+        let command = self.random.pick(&commands);
+        self.call(b'C', &command);
+    }
+
+    fn plain_delivery(&mut self) {
+        let any = self.random.below(300);
+        let n = self.random.pick(&[0, 255, 256, 256, 257, any]);
+        let result = self.random.bytes(n);
+        self.call(b'D', &result);
+    }
+
+    // Malformed and long lines
+
+    /// A line that is not one of the program's, and a look at what it might have changed.
+    fn malformed_and_looked_for(&mut self) {
+        let line = spoiled_hex(&mut self.random);
+        let letter = line.first().copied();
+        self.line(line);
+        match letter {
+            Some(letter @ (b'A' | b'S')) => self.read_certificate(letter),
+            _ => self.plain_calls(),
+        }
+    }
+
+    /// The longest line that is one of the program's, or one character more, or two; and the
+    /// transcript program's limit, which is none here.
+    fn longest_lines(&mut self) {
+        let r = &mut self.random;
+        let line = match r.pick(b"ASCDL") {
+            b'L' => {
+                let length = r.pick(&[4096, 4097]);
+                line_of_length(b'L', &images::filled_up(r, length / 2), length)
+            }
+            letter => {
+                let length = r.pick(&[4095, 4095, 4096, 4096, 4097, 4097, 1025, 1027]);
+                line_of_length(letter, &r.bytes(length / 2), length)
+            }
+        };
+        self.line(line);
+        self.plain_calls();
+        self.make_usable();
+    }
+}
+
+fn line_of(letter: u8, bytes: &[u8]) -> Vec<u8> {
+    let mut line = vec![letter];
+    line.extend(hex::encode(bytes).bytes());
+    line
+}
+
+/// Cut, or filled up with zeros.
+fn line_of_length(letter: u8, bytes: &[u8], length: usize) -> Vec<u8> {
+    let mut line = line_of(letter, bytes);
+    line.resize(length, b'0');
+    line
+}
+
+const OTHER_LINES: [&[u8]; 24] = [
+    b"", b" ", b"\r", b"?", b"p", b"P ", b" P", b"P\r", b"PP", b"P0", b"P00", b"W", b"V35", b"N", b"R9000", b"J1 1100", b"H1", b"F21", b"LX",
+    b"A-", b"S 00", b"C 00A4000C", b"D0", b"C00A4000",
+];
+
+/// A line that would be one of the program's, with one thing wrong in its hex.
+fn spoiled_hex(r: &mut Random) -> Vec<u8> {
+    let letter = r.pick(b"LASCD");
+    let bytes = match letter {
+        b'L' => Parts::valid(r).bytes(),
+        b'C' => vec![0x00, 0xA4, 0x00, 0x0C],
+        b'D' => r.bytes(256),
+        _ => {
+            let n = r.pick(&[1, 200, 256, LONGEST_CERTIFICATE]);
+            r.bytes(n)
+        }
+    };
+    let mut line = line_of(letter, &bytes);
+    let at = r.between(1, line.len() - 1);
+    match r.below(8) {
+        0 => {
+            line.extend(b"FF");
+            line[1..].make_ascii_lowercase();
+        }
+        1 => line[at] = r.pick(b"abcdef"),
+        2 => drop(line.pop()),
+        3 => line.push(r.pick(b"0F")),
+        4 | 5 => line[at] = r.pick(b"/:@G`gx \r\t\0\x80\xC6\xFF"),
+        6 => line.insert(at, b' '),
+        _ => line.push(b'\r'),
+    }
+    line
+}
+
+/// B with anything but a number from 0 to 4,096 without leading zeros.
+fn other_buffer(r: &mut Random) -> Vec<u8> {
+    let texts = [
+        "", "00", "01", "0258", "04096", "000", "4097", "4098", "5000", "9999", "10000", "40960", "65536", "65794", "4294967296", "4294967554",
+        "18446744073709551616", "18446744073709551874", "-1", "-0", "+0", "+258", " 258", "258 ", "258\r", "2 58", "25A", "A", "F", "0x102",
+        "0X102", "102h", "258.", "258.0", "4,096", "1e3", "2B8", "//", "::",
+    ];
+    format!("B{}", r.pick(&texts)).into_bytes()
+}
+
+/// Mostly over 4,096 characters, or of that length exactly. C and D also near
+/// 1,024, which is no limit here.
+fn too_long(r: &mut Random) -> Vec<u8> {
+    let letter = r.pick(b"LLASCDBPX");
+    let over = r.pick(&[4096, 4097, 4097, 4098, 4099, 5001, 8193]);
+    let far_over = r.pick(&[over, over, over, 65_535, 65_536, 65_537, 70_001]);
+    let length = match letter {
+        b'C' | b'D' => r.pick(&[over, over, far_over, 1023, 1024, 1025, 4094]),
+        b'L' | b'A' | b'S' => r.pick(&[over, over, far_over, 1024, 4094]),
+        _ => r.pick(&[over, far_over, 1025, 4095]),
+    };
+    let bytes = match letter {
+        b'L' if length > 4000 => images::filled_up(r, length / 2),
+        b'B' => vec![r.pick(&[0x00, 0x11]); length / 2],
+        _ => r.bytes(length / 2),
+    };
+    line_of_length(letter, &bytes, length)
+}

@@ -1,0 +1,60 @@
+//! What the programs in `bin` share: their arguments, and how they end.
+
+use crate::lines::{run, LineProgram};
+use crate::sample;
+use std::io::{self, Write};
+use std::process::{exit, ExitCode};
+use std::{env, fs};
+
+/// NAME [AUTH.der SIGN.der]; without arguments the built-in certificates.
+pub fn run_card<P: LineProgram>(name: &str, start: fn(Vec<u8>, Vec<u8>) -> P) -> ExitCode {
+    let arguments: Vec<String> = env::args().skip(1).collect();
+    let certificates = match &arguments[..] {
+        [] => Ok((sample::authentication_certificate(), sample::signature_certificate())),
+        [authentication, signature] => read(authentication).and_then(|first| Ok((first, read(signature)?))),
+        _ => {
+            eprintln!("usage: {name} [AUTH.der SIGN.der]");
+            return ExitCode::from(2);
+        }
+    };
+    let ended = certificates.and_then(|(authentication, signature)| {
+        run(&mut start(authentication, signature), io::stdin().lock(), io::stdout().lock())
+    });
+    report(name, ended)
+}
+
+fn report(name: &str, ended: io::Result<()>) -> ExitCode {
+    match ended {
+        Ok(()) => ExitCode::SUCCESS,
+        Err(error) => {
+            eprintln!("{name}: {error}");
+            ExitCode::FAILURE
+        }
+    }
+}
+
+/// NAME SEED N: the first N lines that `lines` makes of the seed and the number.
+pub fn run_generator<L: Iterator<Item = Vec<u8>>>(name: &str, lines: impl Fn(u64, usize) -> L) -> ExitCode {
+    let (seed, n) = seed_and_number(name);
+    let mut out = io::BufWriter::new(io::stdout().lock());
+    let written = lines(seed, n).take(n).try_for_each(|mut line| {
+        line.push(b'\n');
+        out.write_all(&line)
+    });
+    report(name, written.and_then(|()| out.flush()))
+}
+
+fn seed_and_number(name: &str) -> (u64, usize) {
+    let arguments: Vec<String> = env::args().skip(1).collect();
+    if let [seed, n] = &arguments[..] {
+        if let (Ok(seed), Ok(n)) = (seed.parse(), n.parse()) {
+            return (seed, n);
+        }
+    }
+    eprintln!("usage: {name} SEED N");
+    exit(2);
+}
+
+fn read(file: &str) -> io::Result<Vec<u8>> {
+    fs::read(file).map_err(|error| io::Error::new(error.kind(), format!("{file}: {error}")))
+}

@@ -1,0 +1,189 @@
+//! Over a few fixed seeds the generator of stand-in lines reaches every answer, every shape of
+//! card, every length that matters, and refusals in the midst of everything.
+
+use second::answers::{reached, wanted};
+use second::generate::{Generator, Random};
+use second::images::{cut_short, with_fault, Fault, Parts};
+use second::lines::{LineProgram, BLOCK};
+use second::stand_in::StandIn;
+use second::state::{KeyClass, PUK};
+use second::{load, sample, CardState};
+use std::collections::{BTreeMap, BTreeSet};
+
+const SEEDS: u64 = 8;
+const LINES: usize = 4000;
+
+struct Step {
+    line: Vec<u8>,
+    answer: String,
+    before: CardState,
+    after: CardState,
+}
+
+fn play(seed: u64) -> Vec<Step> {
+    let mut stand_in = StandIn::sample();
+    let step = |line: Vec<u8>| {
+        let before = stand_in.card().clone();
+        let answer = stand_in.line(&line);
+        Step { line, answer, before, after: stand_in.card().clone() }
+    };
+    Generator::for_stand_in(seed).take(LINES).map(step).collect()
+}
+
+/// How often each thing happens that `seen` finds in a step.
+fn count<T: Ord>(seen: impl Fn(&Step) -> Vec<T>) -> BTreeMap<T, usize> {
+    let mut counts = BTreeMap::new();
+    for seed in 1..=SEEDS {
+        for thing in play(seed).iter().flat_map(&seen) {
+            *counts.entry(thing).or_default() += 1;
+        }
+    }
+    counts
+}
+
+fn check_all<T: Ord + std::fmt::Debug>(counts: BTreeMap<T, usize>, expected: impl IntoIterator<Item = T>) {
+    let missing: Vec<T> = expected.into_iter().filter(|thing| !counts.contains_key(thing)).collect();
+    assert!(missing.is_empty(), "missing {missing:?}\nreached {counts:?}");
+}
+
+#[test]
+fn every_answer_occurs() {
+    let counts = count(|step| reached(&step.line, &step.answer));
+    let strange: Vec<&String> = counts.keys().filter(|class| !wanted().contains(class)).collect();
+    assert!(strange.is_empty(), "{strange:?}");
+    check_all(counts, wanted());
+}
+
+#[test]
+fn lines_have_no_line_feed_and_cards_are_good_or_zero() {
+    for seed in 1..=SEEDS {
+        for step in play(seed) {
+            assert!(!step.line.contains(&b'\n'));
+            assert!(step.after.is_good() || step.after == CardState::ZERO);
+        }
+    }
+}
+
+/// The cards that L lines load.
+fn loaded(step: &Step) -> Option<&CardState> {
+    (step.answer == "L").then_some(&step.after)
+}
+
+#[test]
+fn cards_have_every_key_and_each_active() {
+    let keys = |card: &CardState| (card.active_key(KeyClass::Signature), card.active_key(KeyClass::Authentication), card.present_keys().to_vec());
+    let counts = count(|step| loaded(step).map(keys).into_iter().collect());
+    let both = |keys: [u16; 2]| [vec![keys[0]], vec![keys[1]], keys.to_vec()];
+    let mut expected = BTreeSet::new();
+    for signature in both([0x0100, 0x0200]) {
+        for authentication in both([0x1100, 0x1200]) {
+            for active in signature.iter().flat_map(|first| authentication.iter().map(move |second| (*first, *second))) {
+                expected.insert((active.0, active.1, [&signature[..], &authentication].concat()));
+            }
+        }
+    }
+    assert_eq!(expected.len(), 16);
+    check_all(counts, expected);
+}
+
+#[test]
+fn cards_have_every_length_and_number_of_tries() {
+    let tries = |card: &CardState| (0..3).map(|code| (code, card.codes[code].tries)).collect::<Vec<_>>();
+    check_all(count(|step| loaded(step).map_or(vec![], tries)), (0..3).flat_map(|code| (0..=3).map(move |tries| (code, tries))));
+
+    let codes = |card: &CardState| (0..3).map(|code| (code, card.codes[code].value.length)).collect::<Vec<_>>();
+    let lengths = [8, 4, 5].into_iter().enumerate().flat_map(|(code, shortest)| (shortest..=12).map(move |length| (code, length)));
+    check_all(count(|step| loaded(step).map_or(vec![], codes)), lengths);
+
+    let records = |card: &CardState| card.records.iter().map(|record| record.length).collect::<Vec<_>>();
+    check_all(count(|step| loaded(step).map_or(vec![], records)), 1..=64);
+
+    let image = |step: &Step| loaded(step).map(|_| step.line.len() / 2).into_iter().collect();
+    check_all(count(image), [84, 1115]);
+}
+
+/// The lengths of records that are read whole.
+#[test]
+fn records_of_every_length_are_read() {
+    let read = |step: &Step| {
+        let whole = step.line.starts_with(b"C00B2") && step.answer.ends_with("9000");
+        if whole { vec![(step.answer.len() - 5) / 2] } else { vec![] }
+    };
+    check_all(count(read), 1..=64);
+}
+
+#[test]
+fn every_fault_gives_its_number() {
+    let mut random = Random(7);
+    for fault in Fault::all() {
+        for _ in 0..30 {
+            assert_eq!(load(&with_fault(&mut random, fault)).1, fault.number(), "{fault:?}");
+        }
+    }
+    for _ in 0..300 {
+        assert_eq!(load(&cut_short(&mut random)).1, 21);
+        assert_eq!(load(&Parts::valid(&mut random).bytes()).1, 0);
+    }
+    assert_eq!(load(&sample::image()).1, 0);
+}
+
+#[test]
+fn certificates_and_buffers_have_every_length_that_matters() {
+    let lent = |step: &Step| match step.answer.as_str() {
+        "A" | "S" => vec![(step.answer.clone(), step.line.len() / 2)],
+        "B" => vec![("B".to_string(), String::from_utf8_lossy(&step.line[1..]).parse().unwrap())],
+        _ => vec![],
+    };
+    let lengths = |letter: &'static str, list: &'static [usize]| list.iter().map(move |length| (letter.to_string(), *length));
+    let certificates = &[0, 1, 200, 255, 256, 257, 1535, 1536, 1537, 2047];
+    let buffers = &[0, 2, 255, 256, 257, 258, 259, 260, 4095, 4096];
+    check_all(count(lent), lengths("A", certificates).chain(lengths("S", certificates)).chain(lengths("B", buffers)));
+}
+
+#[test]
+fn lines_have_every_length_that_matters() {
+    let long = |step: &Step| {
+        let letter = step.line.first().copied().unwrap_or(b' ') as char;
+        let question = step.answer == "?";
+        let more_than_a_block = if step.line.len() > BLOCK { '+' } else { letter };
+        vec![(letter, step.line.len().min(4098), question), (more_than_a_block, 0, question)]
+    };
+    let mut expected = Vec::new();
+    for letter in ['L', 'A', 'S', 'C', 'D'] {
+        expected.extend([(letter, 4095, false), (letter, 4096, true), (letter, 4097, true), (letter, 4098, true)]);
+    }
+    expected.extend([('C', 1025, false), ('D', 1025, false), ('B', 4098, true), ('P', 4098, true), ('X', 4098, true), (' ', 0, true), ('+', 0, true)]);
+    check_all(count(long), expected);
+}
+
+#[test]
+fn refusals_come_in_the_midst_of_everything() {
+    let met = |step: &Step| {
+        let card = &step.before;
+        let states = [
+            ("held", card.held.length > 0),
+            ("chain", card.chain.length > 0),
+            ("job", card.job.is_some()),
+            ("open", card.codes.iter().any(|code| code.verified)),
+            ("PUK blocked", card.is_good() && card.codes[PUK].tries == 0),
+        ];
+        states.iter().filter(|(_, holds)| *holds).map(|(name, _)| (*name, step.answer.chars().take(2).collect::<String>())).collect()
+    };
+    let mut expected = Vec::new();
+    for state in ["held", "chain", "job", "open", "PUK blocked"] {
+        expected.extend(["H2", "H3", "H5", "A", "S", "B", "L", "P", "?"].map(|answer| (state, answer.to_string())));
+    }
+    expected.retain(|(state, answer)| (*state, answer.as_str()) != ("job", "H5"));
+    check_all(count(met), expected);
+}
+
+#[test]
+fn sessions_are_short_and_long() {
+    let mut lengths = Vec::new();
+    for seed in 1..=SEEDS {
+        let loads: Vec<usize> = play(seed).iter().enumerate().filter(|(_, step)| step.line.starts_with(b"L")).map(|(place, _)| place).collect();
+        lengths.extend(loads.windows(2).map(|pair| pair[1] - pair[0]));
+    }
+    let count = |least: usize, most: usize| lengths.iter().filter(|length| (least..=most).contains(*length)).count();
+    assert!(count(1, 10) > 50 && count(11, 100) > 50 && count(101, 500) > 10 && count(700, LINES) > 1, "{lengths:?}");
+}
