@@ -1,4 +1,5 @@
-// The two certificates that the transcript program lends: those of source document 003, as their files hold them; certificates/README.md says how they were restored.
+// The two certificates that the line programs lend as they start: those of source document 003, as their files hold them;
+// certificates/README.md says how they were restored.
 pub const AUTHENTICATION: [u8; 1536] = *b"\
     \x30\x82\x05\x3C\x30\x82\x04\x24\xA0\x03\x02\x01\x02\x02\x10\x02\xEF\x82\x9D\xE1\x97\x96\x94\x50\
     \x1F\x73\x79\xB6\x6E\x05\xDA\x30\x0D\x06\x09\x2A\x86\x48\x86\xF7\x0D\x01\x01\x05\x05\x00\x30\x6C\

@@ -1,132 +1,70 @@
-// The line programs: standard input read, answered and written to standard output. What a failed read or write says goes to standard
-// error, one line.
+// The line programs: standard input read, answered and written to standard output.
 mod certificates;
 
-use libc::STDERR_FILENO;
-use libc::STDIN_FILENO;
-use libc::STDOUT_FILENO;
-use lines::Dialect;
+use requests::Dialect;
+use streams::Reading;
 use transcripts::Console;
+use transcripts::Progress;
+ghost use mathlib.Core.Path.{_≡_};
+ghost use lib.ListN.{length, take};
+ghost use Rattle.io.specs.Counts.{clamped};
+ghost use Rattle.transcripts.specs.Transcript.{run};
+ghost use Rattle.transcripts.specs.Consoles.{programOf, Reads};
 
-// How many bytes are answered at a time: each gives at most 521 characters (`ShortOutput`), so that all of it fits into 524,288 bytes.
-const PIECE: usize = 1006;
-
-// Writes to standard output, and says where that fails.
-fn written(text: &[u8]) -> bool {
-    if io::write_all(STDOUT_FILENO, text) {
-        return true;
-    }
-    os::fail(b"cannot write to standard output");
-    false
-}
-
-// The program after some input, and whether its output could be written.
-pub struct Answered {
-    pub console: Console,
-    pub written: bool,
-}
-
-// Answers what was read, piece by piece.
-fn answer_pieces(
-    dialect: Dialect,
-    console: Console,
-    input: &[u8],
-    line: &mut [u8; 4097],
-    authentication: &mut [u8; 2048],
-    signature: &mut [u8; 2048],
-    output: &mut [u8],
-) -> Answered {
-    let mut next = console;
-    let mut at = 0;
-    while at < input.len() {
-        let piece = octets::part(input, at, PIECE);
-        let progress = transcripts::read(
-            dialect,
-            next,
-            piece,
-            line,
-            authentication,
-            signature,
-            output,
-        );
-        next = progress.console;
-        if !written(octets::part(output, 0, progress.written)) {
-            return Answered {
-                console: next,
-                written: false,
-            };
-        }
-        at += piece.len();
-    }
-    Answered {
-        console: next,
-        written: true,
-    }
-}
-
-// The program after one more reading, whether to go on, and whether the input has ended.
+// One more reading: what came, the program after it, and whether to go on.
 pub struct Turn {
-    pub console: Console,
+    pub reading: Reading,
+    pub progress: Progress,
     pub more: bool,
-    pub ended: bool,
 }
 
-// What a reading that failed leaves to do: one that a signal interrupted is made again.
-fn unread(console: Console) -> Turn {
-    let again = os::errno() == libc::EINTR;
-    if !again {
-        os::fail(b"cannot read standard input");
-    }
-    Turn {
-        console: console,
-        more: again,
-        ended: false,
-    }
-}
-
-// Reads once, and answers what came.
+// Reads once, and answers what came. Each of 1,006 bytes gives at most 521 characters (`ShortOutput`), so that 524,288 hold all.
 fn read_some(
     dialect: Dialect,
     console: Console,
-    input: &mut [u8],
+    input: &mut [u8; 1006],
     line: &mut [u8; 4097],
     authentication: &mut [u8; 2048],
     signature: &mut [u8; 2048],
     output: &mut [u8],
-) -> Turn {
-    let got = libc::read(STDIN_FILENO, input);
-    if got < 0 {
-        return unread(console);
-    }
-    let n = io::count(got, input);
-    let came = octets::part(input, 0, n);
-    let answered = answer_pieces(
+) -> Turn
+    ensures { λ r. ⌜ r .reading .count ≡ clamped (r .reading .got) (length (now (input .exit))) ⌝ }
+    ensures { λ r. ⌜ Reads (run dialect (programOf dialect console (now (line .entry)) (now (authentication .entry)) (now (signature .entry))) (take (r .reading .count) (now (input .exit)))) (now (output .entry)) (now (line .exit)) (now (authentication .exit)) (now (signature .exit)) (now (output .exit)) (r .progress) ⌝ }
+{
+    let reading = streams::read(input);
+    let progress = transcripts::read(
         dialect,
         console,
-        came,
+        octets::part(input, 0, reading.count),
         line,
         authentication,
         signature,
         output,
     );
-    let next = answered.console;
+    let sent = streams::write_or_say(octets::part(output, 0, progress.written));
     Turn {
-        console: next,
-        more: answered.written & (0 < got),
-        ended: got == 0,
+        reading: reading,
+        progress: progress,
+        more: reading.more & sent,
     }
+}
+
+// The program where reading stopped, and whether that is the end of the input.
+pub struct Stopped {
+    pub console: Console,
+    pub ended: bool,
 }
 
 // A proved loop has to end, and nothing says that the input does. So the loop counts its turns down, from a number that no run uses up.
 fn read_all(
     dialect: Dialect,
     console: Console,
-    input: &mut [u8],
+    input: &mut [u8; 1006],
     line: &mut [u8; 4097],
     authentication: &mut [u8; 2048],
     signature: &mut [u8; 2048],
     output: &mut [u8],
-) -> Turn {
+) -> Stopped {
     let mut next = console;
     let mut left = u64::MAX;
     while 0 < left {
@@ -139,22 +77,26 @@ fn read_all(
             signature,
             output,
         );
+        let progress = turn.progress;
+        let reading = turn.reading;
+        next = progress.console;
         if !turn.more {
-            return turn;
+            return Stopped {
+                console: next,
+                ended: reading.got == 0,
+            };
         }
-        next = turn.console;
         left -= 1;
     }
-    Turn {
+    Stopped {
         console: next,
-        more: false,
         ended: false,
     }
 }
 
 // Answers all of standard input, from the sample card and the two certificates on.
 fn answer_input(dialect: Dialect) {
-    let mut input = io::large_buffer();
+    let mut input = [0u8; 1006];
     let mut line = [0u8; 4097];
     let mut authentication = [0u8; 2048];
     let mut signature = [0u8; 2048];
@@ -167,7 +109,7 @@ fn answer_input(dialect: Dialect) {
         &mut authentication,
         &mut signature,
     );
-    let turn = read_all(
+    let stopped = read_all(
         dialect,
         console,
         &mut input,
@@ -176,24 +118,22 @@ fn answer_input(dialect: Dialect) {
         &mut signature,
         &mut output,
     );
-    if turn.ended {
+    if stopped.ended {
         let last = transcripts::finish(
             dialect,
-            turn.console,
+            stopped.console,
             &mut line,
             &mut authentication,
             &mut signature,
             &mut output,
         );
-        written(octets::part(&output, 0, last.written));
+        streams::write_or_say(octets::part(&output, 0, last.written));
     }
 }
 
-// A program that takes no arguments: where it is given any, it says how it is used.
+// A program that takes no arguments. It has no result: all that it does is to read and to write (docs/DECISIONS.md).
 pub fn run(dialect: Dialect, usage: &[u8]) {
-    if 1 < os::arg_count() {
-        io::write_all(STDERR_FILENO, usage);
-        return;
+    if streams::without_arguments_or_say(usage) {
+        answer_input(dialect);
     }
-    answer_input(dialect);
 }

@@ -10,11 +10,13 @@ use Rattle.octets.specs.Octets.{Bytes, blank, pasted}
 use Rattle.rules.specs.Edge.{Result}
 use Rattle.lines.specs.declared.Answered.{Answered}
 use Rattle.lines.specs.declared.Carried.{Carried}
-use Rattle.lines.specs.declared.Dialect.{Dialect}
+use Rattle.requests.specs.declared.Dialect.{Dialect}
 use Rattle.lines.specs.declared.Terminal.{Terminal}
-use Rattle.lines.specs.Lines.{Request, LineAnswer, requestOf, callAnswer, answerTo, setupAfter, answerLine}
-use Rattle.lines.specs.Terminals.{setupOf, Put, Carries, Lends, Answers}
-use Rattle.lines.proofs.Texts.{take-pasted, pasted-own}
+use Rattle.requests.specs.Requests.{Request, requestOf}
+use Rattle.lines.specs.Lines.{LineAnswer, callAnswer, answerTo, setupAfter, answerLine}
+use Rattle.lines.specs.Terminals.{setupOf, Carries, Lends, Answers}
+use Rattle.line_texts.specs.Puts.{Put}
+use Rattle.octets.proofs.Pasting.{take-pasted, pasted-own}
 
 pub take-blank : (n m : ℕ) → n ≤ m → take n (blank m) ≡ blank n
 unfolding blank

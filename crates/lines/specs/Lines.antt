@@ -1,114 +1,26 @@
--- A line of the two line programs, in and out: document 01's transcript program ("Cases"), and the stand-in, which has lines for an image, the
--- certificates and the answer buffer beside them and shows the block of a job.
-use Prim.Native.Nat.{ℕ, _+_, _-_, _*_, _/_, _%_, min}
-use mathlib.Core.Bool.{Bool, true, false, cond, not, _&&_, _||_}
+-- A line of the two line programs, in and out.
+use Prim.Native.Nat.{ℕ, min}
 use mathlib.Core.List.{[], _∷_, _++_}
-use lib.ListN.{length, take, drop}
-use lib.Dec.{eqb, leb, ltb}
-use Rattle.octets.specs.Octets.{Bytes, byteAt, same, every, allDigits, blank}
-use Rattle.hex.specs.Hex.{isHex, bytesOf, hexOf}
+use Rattle.octets.specs.Octets.{Bytes, blank}
 use Rattle.rules.specs.declared.Card.{Card}
-use Rattle.rules.specs.Numbers.{Returned, edge, responded, handedOut, wasReset}
 use Rattle.rules.specs.Edge.{Result, command, delivery, powerReset}
 use Rattle.rules.specs.Image.{load}
-use Rattle.lines.specs.declared.Dialect.{Dialect}
-use Rattle.lines.specs.declared.Dialect.the-variants.{Transcript, StandIn}
-
--- Lines end in a line feed.
-abbrev pub lineFeed : ℕ
-lineFeed = 0x0A
-
--- What differs between the two programs: the greatest length of a line; whether there are the letters L, A, S and B, and a job's line
--- shows its block.
-abbrev pub longest : Dialect → ℕ
-longest Transcript = 1024
-longest StandIn = 4096
-
-abbrev pub standsIn : Dialect → Bool
-standsIn Transcript = false
-standsIn StandIn = true
-
--- What a line asks for.
-pub data Request : Type 0 where
-  reset : Request
-  command-of : Bytes → Request
-  delivery-of : Bytes → Request
-  image-of : Bytes → Request
-  authentication-of : Bytes → Request
-  signature-of : Bytes → Request
-  buffer-of : ℕ → Request
-  other : Request
-
--- Digits as a decimal number, behind those that came before them.
-abbrev pub decimalFrom : ℕ → Bytes → ℕ
-decimalFrom n [] = n
-decimalFrom n (x ∷ s) = decimalFrom (n * 10 + (x - 0x30)) s
-
-abbrev pub decimal : Bytes → ℕ
-decimal s = decimalFrom 0 s
-
--- The greatest answer buffer.
-abbrev pub mostBuffer : ℕ
-mostBuffer = 4096
-
--- A decimal number from 0 to 4,096 without leading zeros.
-unfoldable pub isSize : Bytes → Bool
-isSize s =
-    every (
-    not (eqb (length s) 0)
-    ∷ allDigits s
-    ∷ (eqb (length s) 1 || not (eqb (byteAt s 0) 0x30))
-    ∷ leb (decimal s) mostBuffer
-    ∷ []
-    )
-
-unfoldable pub sizeRequest : Bytes → Request
-sizeRequest s = cond (isSize s) (buffer-of (decimal s)) other
-
--- The letters L, A and S, each with the bytes that its hex says: an image to load, the certificates to lend.
-unfoldable pub furtherRequest : ℕ → Bytes → Request
-furtherRequest letter bytes =
-    cond (eqb letter 0x4C) (image-of bytes)
-    (cond (eqb letter 0x41) (authentication-of bytes)
-    (cond (eqb letter 0x53) (signature-of bytes) other))
-
--- C is a command, D a delivery.
-unfoldable pub hexRequest : Dialect → ℕ → Bytes → Request
-hexRequest d letter bytes =
-    cond (eqb letter 0x43) (command-of bytes)
-    (cond (eqb letter 0x44) (delivery-of bytes)
-    (cond (standsIn d) (furtherRequest letter bytes) other))
-
--- P is a reset; B and a number the size of the answer buffer; the other letters have upper-case hex of whole bytes, perhaps none.
--- Other lines, and those that are too long, ask for nothing.
-unfoldable pub requestOf : Dialect → Bytes → Request
-requestOf d line =
-    cond (ltb (longest d) (length line)) other
-    (cond (same line (0x50 ∷ [])) reset
-    (cond (standsIn d && eqb (byteAt line 0) 0x42) (sizeRequest (drop 1 line))
-    (cond (not (isHex (drop 1 line))) other
-    (hexRequest d (byteAt line 0) (bytesOf (drop 1 line))))))
-
--- A number below 10 as a character.
-abbrev pub numeral : ℕ → ℕ
-numeral n = 0x30 + n
-
--- Behind a job's key the stand-in shows a space and the block, the 256 bytes that the call wrote.
-abbrev pub blockText : Dialect → Bytes → Bytes
-blockText Transcript buffer = []
-blockText StandIn buffer = 0x20 ∷ hexOf (take 256 buffer)
-
--- Out: P; R and the response in the same hex; J, kind, space, key as four such digits; H and the edge number.
-unfoldable pub replyText : Dialect → Returned → Bytes → Bytes
-replyText d wasReset buffer = 0x50 ∷ []
-replyText d (responded n) buffer = 0x52 ∷ hexOf (take n buffer)
-replyText d (handedOut kind key) buffer =
-    0x4A ∷ numeral kind ∷ 0x20 ∷ (hexOf ((key / 256) ∷ (key % 256) ∷ []) ++ blockText d buffer)
-replyText d (edge n) buffer = 0x48 ∷ numeral n ∷ []
-
--- L for an image that loads, else F and the load number, which has two digits.
-unfoldable pub loadText : ℕ → Bytes
-loadText n = cond (eqb n 0) (0x4C ∷ []) (0x46 ∷ numeral (n / 10) ∷ numeral (n % 10) ∷ [])
+use Rattle.requests.specs.declared.Dialect.{Dialect}
+use Rattle.requests.specs.Requests.{
+  Request,
+  reset,
+  command-of,
+  delivery-of,
+  image-of,
+  authentication-of,
+  signature-of,
+  buffer-of,
+  other,
+  lineFeed,
+  mostBuffer,
+  requestOf,
+}
+use Rattle.line_texts.specs.Texts.{replyText, loadText}
 
 -- What a program holds between two lines: the card, the certificates that it lends, and the size of the answer buffer.
 pub record Setup : Type 0 where

@@ -1,36 +1,13 @@
 -- What the code holds of a program, and its steps, in the terms of Lines.antt. No rule of the lines stands here.
-use Prim.Native.Nat.{ℕ, _+_, _≤_, min}
+use Prim.Native.Nat.{ℕ, _≤_}
 use mathlib.Core.Path.{_≡_}
 use lib.ListN.{length, take}
 use Rattle.octets.specs.Octets.{Bytes, pasted}
-use Rattle.lines.specs.Lines.{
-  Request,
-  reset,
-  command-of,
-  delivery-of,
-  image-of,
-  authentication-of,
-  signature-of,
-  buffer-of,
-  other,
-  Setup,
-  CardAnswer,
-  LineAnswer,
-}
+use Rattle.line_texts.specs.Puts.{Put}
+use Rattle.lines.specs.Lines.{Setup, CardAnswer, LineAnswer}
 use Rattle.lines.specs.declared.Terminal.{Terminal}
 use Rattle.lines.specs.declared.Answered.{Answered}
 use Rattle.lines.specs.declared.Carried.{Carried}
-use Rattle.lines.specs.declared.Meaning.{Meaning}
-use Rattle.lines.specs.declared.Meaning.the-variants.{
-  Reset,
-  Command,
-  Delivery,
-  Image,
-  Authentication,
-  Signature,
-  Buffer,
-  Other,
-}
 
 -- A terminal beside the rooms that its certificates stand in; what stands behind them does not count.
 abbrev pub setupOf : Terminal → Bytes → Bytes → Setup
@@ -48,22 +25,6 @@ terminalFor s = record {
   signature = length (s .signature);
   buffer = s .buffer;
 }
-
--- A request whose bytes stand at the front of a room.
-abbrev pub meant : Meaning → Bytes → Request
-meant Reset room = reset
-meant (Command n) room = command-of (take n room)
-meant (Delivery n) room = delivery-of (take n room)
-meant (Image n) room = image-of (take n room)
-meant (Authentication n) room = authentication-of (take n room)
-meant (Signature n) room = signature-of (take n room)
-meant (Buffer n) room = buffer-of n
-meant Other room = other
-
--- A text written from a place on, as much of it as fits, and the place behind it.
-pub record Put (before : Bytes) (at : ℕ) (text after : Bytes) (end : ℕ) : Type 0 where
-  pub whole : after ≡ pasted before at text
-  pub place : end ≡ min (at + length text) (length before)
 
 -- The card after a line, and its line of output.
 pub record Carries (x : CardAnswer) (before : Bytes) (at : ℕ) (after : Bytes) (r : Carried) : Type 0 where

@@ -1,102 +1,160 @@
-// Reads a card image and prints what load makes of it: the fault's number, or the card, a line for each part.
-use libc::STDIN_FILENO;
-use libc::STDOUT_FILENO;
+// Reads a card image and prints what load makes of it: the fault's number, or the card, a line for each part. The functions that put a
+// part into the text answer where it ends.
 use rules::Card;
 use rules::Code;
 use rules::Fault;
 use rules::LoadResult;
 use rules::Record;
 
-fn print(s: &[u8]) {
-    io::write_all(STDOUT_FILENO, s);
+// A name, and bytes in hex.
+fn put_bytes(text: &mut [u8], at: usize, name: &[u8], s: &[u8]) -> usize {
+    let named = line_texts::put(text, at, name);
+    let end = hex::hex_at(text, named, s);
+    line_texts::put(text, end, b"\n")
 }
 
-// A name, and the hex of at most 258 bytes.
-fn print_bytes(name: &[u8], s: &[u8]) {
-    let mut code = [0u8; 516];
-    let n = hex::hex_at(&mut code, 0, s);
-    print(name);
-    print(octets::part(&code, 0, n));
-    print(b"\n");
-}
-
-fn print_number(n: u8) {
-    io::print_decimal(STDOUT_FILENO, numbers::wide(n) as u64);
+fn put_number(text: &mut [u8], at: usize, n: u8) -> usize {
+    let mut digits = [0u8; 20];
+    let count = io::decimal(numbers::wide(n) as u64, &mut digits);
+    let end = line_texts::put(text, at, &digits[..count]);
+    line_texts::put(text, end, b"\n")
 }
 
 // A name, the digits and the tries left.
-fn print_code(name: &[u8], code: Code) {
+fn put_code(text: &mut [u8], at: usize, name: &[u8], code: Code) -> usize {
     let digits = code.digits;
-    print(name);
-    print(octets::part(&digits, 0, numbers::wide(code.len)));
-    print(b" ");
-    print_number(code.tries);
-    print(b"\n");
+    let named = line_texts::put(text, at, name);
+    let counted = line_texts::put(
+        text,
+        named,
+        octets::part(&digits, 0, numbers::wide(code.len)),
+    );
+    let end = line_texts::put(text, counted, b" ");
+    put_number(text, end, code.tries)
 }
 
-fn print_key(there: bool, name: &[u8]) {
+fn put_key(text: &mut [u8], at: usize, there: bool, name: &[u8]) -> usize {
     if there {
-        print(name);
+        return line_texts::put(text, at, name);
     }
+    at
 }
 
-fn print_keys(keys: [bool; 4]) {
-    print(b"keys");
-    print_key(keys[0], b" 0100");
-    print_key(keys[1], b" 0200");
-    print_key(keys[2], b" 1100");
-    print_key(keys[3], b" 1200");
-    print(b"\n");
+fn put_keys(text: &mut [u8], at: usize, keys: [bool; 4]) -> usize {
+    let named = line_texts::put(text, at, b"keys");
+    let first = put_key(text, named, keys[0], b" 0100");
+    let second = put_key(text, first, keys[1], b" 0200");
+    let third = put_key(text, second, keys[2], b" 1100");
+    let fourth = put_key(text, third, keys[3], b" 1200");
+    line_texts::put(text, fourth, b"\n")
 }
 
-fn print_references(references: [u8; 21]) {
-    print_bytes(b"references ", &references);
+fn put_references(text: &mut [u8], at: usize, references: [u8; 21]) -> usize {
+    put_bytes(text, at, b"references ", &references)
 }
 
-fn print_record(record: Record) {
+fn put_record(text: &mut [u8], at: usize, record: Record) -> usize {
     let bytes = record.bytes;
-    print_bytes(
+    put_bytes(
+        text,
+        at,
         b"record ",
         octets::part(&bytes, 0, numbers::wide(record.len)),
-    );
+    )
 }
 
-fn print_records(personal: [Record; 16]) {
+fn put_records(text: &mut [u8], at: usize, personal: [Record; 16]) -> usize {
+    let mut end = at;
     let mut i = 0;
     while i < 16 {
         let record = personal[i];
-        print_record(record);
+        end = put_record(text, end, record);
         i += 1;
+    }
+    end
+}
+
+fn put_codes(text: &mut [u8], at: usize, codes: [Code; 3]) -> usize {
+    let puk = put_code(text, at, b"PUK ", card_codes::code_of(codes, Code::PUK));
+    let pin1 = put_code(text, puk, b"PIN1 ", card_codes::code_of(codes, Code::PIN1));
+    put_code(text, pin1, b"PIN2 ", card_codes::code_of(codes, Code::PIN2))
+}
+
+fn put_card(text: &mut [u8], card: Card) -> usize {
+    let codes = card.codes;
+    let profile = card.profile;
+    let keys = profile.keys;
+    let references = profile.references;
+    let personal = profile.personal;
+    let end = put_codes(text, 0, codes);
+    let end = put_keys(text, end, keys);
+    let end = put_references(text, end, references);
+    put_records(text, end, personal)
+}
+
+fn put_fault(text: &mut [u8], fault: Fault) -> usize {
+    put_number(text, 0, image::fault_number(fault))
+}
+
+// How much of the image has been read, whether to read on, and whether that is all of it.
+pub struct ImageRead {
+    pub len: usize,
+    pub more: bool,
+    pub ended: bool,
+}
+
+// Reads once more. An image of more than 1,115 bytes is refused by what stands in its first 1,116, so 4,096 bytes of it are enough.
+fn read_more(image: &mut [u8], have: usize) -> ImageRead {
+    let mut room = [0u8; 4096];
+    let reading = streams::read(&mut room);
+    let len = line_texts::put(image, have, octets::part(&room, 0, reading.count));
+    ImageRead {
+        len: len,
+        more: reading.more & (len < image.len()),
+        ended: (reading.got == 0) | (len == image.len()),
     }
 }
 
-fn print_card(card: Card) {
-    let codes = card.codes;
-    print_code(b"PUK ", card_codes::code_of(codes, Code::PUK));
-    print_code(b"PIN1 ", card_codes::code_of(codes, Code::PIN1));
-    print_code(b"PIN2 ", card_codes::code_of(codes, Code::PIN2));
-    let profile = card.profile;
-    let keys = profile.keys;
-    print_keys(keys);
-    let references = profile.references;
-    print_references(references);
-    let personal = profile.personal;
-    print_records(personal);
+// A proved loop has to end, and nothing says that the input does. So the loop counts its turns down, from a number that no run uses up.
+fn read_image(image: &mut [u8]) -> ImageRead {
+    let mut have = 0;
+    let mut left = u64::MAX;
+    while 0 < left {
+        let read = read_more(image, have);
+        if !read.more {
+            return read;
+        }
+        have = read.len;
+        left -= 1;
+    }
+    ImageRead {
+        len: have,
+        more: false,
+        ended: false,
+    }
 }
 
-fn print_fault(fault: Fault) {
-    print_number(image::fault_number(fault));
-    print(b"\n");
-}
-
-// An image of more than 1,115 bytes is refused by what stands in its first 1,116, so 4,096 bytes of it are enough.
-fn main() {
-    let mut image = io::buffer();
-    let n = io::read_full(STDIN_FILENO, &mut image);
-    let loaded = image::load(octets::part(&image, 0, n));
+fn put_loaded(text: &mut [u8], image: &[u8]) -> usize {
+    let loaded = image::load(image);
     let result = loaded.result;
     match result {
-        LoadResult::Accepted => print_card(loaded.card),
-        LoadResult::Faulty(fault) => print_fault(fault),
+        LoadResult::Accepted => put_card(text, loaded.card),
+        LoadResult::Faulty(fault) => put_fault(text, fault),
+    }
+}
+
+fn main() {
+    if !streams::without_arguments_or_say(
+        b"usage: load_image (it takes no arguments; an image is read from standard input)\n",
+    ) {
+        return;
+    }
+    let mut image = [0u8; 4096];
+    let read = read_image(&mut image);
+    if read.ended {
+        // The longest text has 2,314 characters.
+        let mut text = [0u8; 4096];
+        let end = put_loaded(&mut text, octets::part(&image, 0, read.len));
+        streams::write_or_say(octets::part(&text, 0, end));
     }
 }

@@ -1,13 +1,16 @@
 -- Laws of a string written into another, and of the part of a string from a place on.
-use mathlib.Core.Path.{_≡_, refl, _∙_}
+use mathlib.Core.Path.{_≡_, refl, sym, ap, _∙_}
 use mathlib.Core.List.{[], _∷_, _++_, append-assoc, append-nil}
 use Prim.Native.Nat.{ℕ, zero, suc, _+_, _-_, _<_, _≤_, min}
-use native.Mathlib.Nat.{sub-zero, zero-sub, suc-sub-suc, zero-add}
+use native.Mathlib.Nat.{sub-zero, zero-sub, suc-sub-suc, zero-add, add-assoc}
 use native.Mathlib.Numerals.{add-one}
 use native.Mathlib.Omega.{arith, min-cases}
-use lib.ListN.{length, take, drop, set, replicate, length-append, length-take, length-drop, length-replicate, getD-replicate, drop-of-length-le}
-use lib.Seq.{take-nil, take-all, take-at, take-append-seam, take-append-add, take-append-le, drop-append-add, drop-drop, drop-cons, set-at, append-snoc, paste, paste-suc}
+use lib.Dec.{leb}
+use lib.ListN.{length, take, drop, set, replicate, length-append, length-take, length-drop, length-replicate, getD-replicate, drop-of-length-le, take-append-drop}
+use lib.Seq.{take-nil, take-all, take-at, take-append-seam, take-append-add, take-append-le, drop-append-add, drop-append-seam, drop-drop, drop-cons, set-at, append-snoc, paste, paste-suc}
+use borrow.Author.Tests.{leb-true, leb-false}
 use Rattle.octets.specs.Octets.{Bytes, byteAt, blank, filled, pasted}
+use Rattle.octets.proofs.Tests.{by-test}
 
 -- A loop that copies as many bytes as fit.
 module _ (dst : Bytes) (at : ℕ) (src : Bytes) where
@@ -131,3 +134,73 @@ module _ (d p q : Bytes) where
       min-cases (length p) (length d) (pasted (pasted d 0 p) at q ≡ pasted d 0 (p ++ q))
       (λ h m. rw (e, m) (behind-short h))
       (λ h m. rw (e, m) (behind-full h))
+
+-- What is written keeps the length, and past the end nothing is written.
+module _ (d : Bytes) (at : ℕ) (s : Bytes) where
+  pub length-pasted : length (pasted d at s) ≡ length d
+  unfolding pasted
+  length-pasted = simp (length-append, length-take, length-drop) (omega arith)
+
+  pasted-past : length d ≤ at → pasted d at s ≡ d
+  unfolding pasted
+  pasted-past h =
+      let none : length d - at ≡ 0 = omega arith in
+      let past : length d ≤ at + length s = omega arith in
+      rw (take-all at d h, none, drop-of-length-le d past, append-nil d)
+
+-- Behind a front that stays.
+pasted-inner : (a b s : Bytes) (k : ℕ) → pasted (a ++ b) (length a + k) s ≡ a ++ pasted b k s
+unfolding pasted
+pasted-inner a b s k =
+    let left : length (a ++ b) - (length a + k) ≡ length b - k = simp length-append (omega arith) in
+    rw (take-append-add a b k, left, add-assoc (length a) k (length s), drop-append-add a b (k + length s), append-assoc)
+
+-- One text behind another, from any place on: both are cut where the room ends.
+module _ (d : Bytes) (at : ℕ) (p q : Bytes) where
+  within : at ≤ length d → pasted (pasted d at p) (min (at + length p) (length d)) q ≡ pasted d at (p ++ q)
+  within h =
+      let a : Bytes = take at d in
+      let b : Bytes = drop at d in
+      let whole : d ≡ a ++ b = sym (take-append-drop at d) in
+      let front : length a ≡ at = omega (arith, length-take at d) in
+      let rest : length b ≡ length d - at = length-drop at d in
+      let place : at ≡ length a + 0 = omega arith in
+      let one : (s : Bytes) → pasted d at s ≡ a ++ pasted b 0 s =
+      λ s. ap (λ (x : Bytes). pasted x at s) whole ∙ ap (λ (n : ℕ). pasted (a ++ b) n s) place ∙ pasted-inner a b s 0 in
+      let k : ℕ = min (length p) (length b) in
+      let end : min (at + length p) (length d) ≡ length a + k = omega arith in
+      rw (one p, end, pasted-inner a (pasted b 0 p) q k, pasted-behind b p q k refl, one (p ++ q))
+
+  pub pasted-then : pasted (pasted d at p) (min (at + length p) (length d)) q ≡ pasted d at (p ++ q)
+  pasted-then =
+      by-test _ (leb at (length d))
+      (λ e. within (leb-true at (length d) e))
+      (λ e.
+      let h : length d ≤ at = omega (arith, leb-false at (length d) e) in
+      let end : min (at + length p) (length d) ≡ length d = omega arith in
+      rw (pasted-past d at p h, pasted-past d at (p ++ q) h, end) (pasted-past d (length d) q (omega arith)))
+
+-- Nothing written, from any place on.
+pub pasted-zero : (d : Bytes) (at : ℕ) → pasted d at [] ≡ d
+unfolding pasted
+pasted-zero d at =
+    let none : at + 0 ≡ at = omega arith in
+    rw (take-nil (length d - at), none) (take-append-drop at d)
+
+-- A string written over its own front.
+pub pasted-own : (d : Bytes) (n : ℕ) → pasted d 0 (take n d) ≡ d
+unfolding pasted
+pasted-own d n =
+    let a : Bytes = take n d in
+    let b : Bytes = drop n d in
+    let whole : d ≡ a ++ b = sym (take-append-drop n d) in
+    let short : length a ≤ length d - 0 = omega (arith, length-take n d) in
+    let rest : drop (length a) d ≡ b = ap (drop (length a)) whole ∙ drop-append-seam a b in
+    rw (take-all (length d - 0) a short, zero-add (length a), rest) (take-append-drop n d)
+
+-- A string read back from the front where it was written.
+pub take-pasted : (d s : Bytes) → length s ≤ length d → take (length s) (pasted d 0 s) ≡ s
+unfolding pasted
+take-pasted d s h =
+    let all : length s ≤ length d - 0 = omega arith in
+    rw (take-all (length d - 0) s all) (take-append-seam s (drop (0 + length s) d))

@@ -1,5 +1,5 @@
 // The stand-in: the transcript program's lines, and lines for an image, the certificates and the answer buffer.
-use lines::Dialect;
+use requests::Dialect;
 
 fn main() {
     line_programs::run(

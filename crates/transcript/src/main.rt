@@ -1,5 +1,5 @@
 // Document 01's transcript program: lines in, one line out for each.
-use lines::Dialect;
+use requests::Dialect;
 
 fn main() {
     line_programs::run(

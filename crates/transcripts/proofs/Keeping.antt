@@ -11,8 +11,9 @@ use borrow.Author.Tests.{ne-eqb, lt-ltb, leb-true, leb-false}
 use Rattle.octets.specs.Octets.{Bytes}
 use Rattle.octets.proofs.Tests.{by-test}
 use Rattle.octets.proofs.Cutting.{cut-front}
-use Rattle.lines.specs.declared.Dialect.{Dialect}
-use Rattle.lines.specs.Lines.{Setup, other, lineFeed, longest, requestOf}
+use Rattle.requests.specs.declared.Dialect.{Dialect}
+use Rattle.lines.specs.Lines.{Setup}
+use Rattle.requests.specs.Requests.{other, lineFeed, longest, requestOf}
 use Rattle.transcripts.specs.Transcript.{
   Program,
   Run,

@@ -17,22 +17,12 @@ use Rattle.rules.specs.Image.{load}
 use Rattle.rules.specs.Counting.{Call, Command, Delivery, PowerReset, step}
 use Rattle.rules.specs.Demands.{Possible, edgeRefusal, commandResponse, commandJob, deliveryResponse, reset}
 use Rattle.rules.proofs.Demand1.{demand-1}
-use Rattle.lines.specs.declared.Dialect.{Dialect}
-use Rattle.lines.specs.declared.Dialect.the-variants.{Transcript, StandIn}
-use Rattle.lines.specs.Lines.{
-  Request,
-  Setup,
-  lineFeed,
-  mostBuffer,
-  replyText,
-  loadText,
-  answerTo,
-  setupAfter,
-  lineAnswer,
-  answerBuffer,
-  answerLine,
-}
-use Rattle.lines.proofs.Requests.{Cases, every-request}
+use Rattle.requests.specs.declared.Dialect.{Dialect}
+use Rattle.requests.specs.declared.Dialect.the-variants.{Transcript, StandIn}
+use Rattle.requests.specs.Requests.{Request, lineFeed, mostBuffer}
+use Rattle.lines.specs.Lines.{Setup, answerTo, setupAfter, lineAnswer, answerBuffer, answerLine}
+use Rattle.line_texts.specs.Texts.{replyText, loadText}
+use Rattle.requests.proofs.Requests.{Cases, every-request}
 use Rattle.transcripts.specs.Transcript.{Program, run, keptLine, mostText, ShortOutput}
 use Rattle.transcripts.proofs.Runs.{at-end, at-feed, at-other, nextLine, oneMore}
 

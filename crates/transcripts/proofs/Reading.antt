@@ -14,10 +14,13 @@ use Rattle.octets.proofs.Strings.{take-twice}
 use Rattle.octets.proofs.Tests.{either}
 use Rattle.rules.specs.declared.Card.{Card}
 use Rattle.lines.specs.declared.Answered.{Answered}
-use Rattle.lines.specs.declared.Dialect.{Dialect}
-use Rattle.lines.specs.Lines.{lineFeed, longest, answerLine}
-use Rattle.lines.specs.Terminals.{setupOf, Put, Answers}
-use Rattle.lines.proofs.Texts.{put-then, pasted-zero}
+use Rattle.requests.specs.declared.Dialect.{Dialect}
+use Rattle.requests.specs.Requests.{lineFeed, longest}
+use Rattle.lines.specs.Lines.{answerLine}
+use Rattle.lines.specs.Terminals.{setupOf, Answers}
+use Rattle.line_texts.specs.Puts.{Put}
+use Rattle.line_texts.proofs.Texts.{put-then}
+use Rattle.octets.proofs.Pasting.{pasted-zero}
 use Rattle.lines.proofs.Answers.{setup-read}
 use Rattle.transcripts.specs.Transcript.{Program, Run, writtenBefore, keptLine, run}
 use Rattle.transcripts.specs.Consoles.{lineLength, programOf, Holds, Reads, ReadsFirst}

@@ -11,10 +11,10 @@ use borrow.Author.Tests.{leb-true, leb-false}
 use Rattle.octets.specs.Octets.{Bytes, blank, filled, pasted}
 use Rattle.octets.proofs.Tests.{by-test}
 use Rattle.octets.proofs.Pasting.{length-blank}
-use Rattle.lines.specs.declared.Dialect.{Dialect}
-use Rattle.lines.specs.declared.Dialect.the-variants.{Transcript, StandIn}
-use Rattle.lines.specs.Lines.{longest}
-use Rattle.lines.proofs.Texts.{take-pasted}
+use Rattle.requests.specs.declared.Dialect.{Dialect}
+use Rattle.requests.specs.declared.Dialect.the-variants.{Transcript, StandIn}
+use Rattle.requests.specs.Requests.{longest}
+use Rattle.octets.proofs.Pasting.{take-pasted}
 use Rattle.lines.proofs.Answers.{take-blank}
 use Rattle.transcripts.specs.Transcript.{keptLine}
 

@@ -14,8 +14,9 @@ use borrow.Author.Tests.{eqb-true, eq-eqb, ne-eqb}
 use Rattle.octets.proofs.Cutting.{cut-front}
 use Rattle.octets.specs.Octets.{Bytes, byteAt}
 use Rattle.octets.proofs.Tests.{by-test}
-use Rattle.lines.specs.declared.Dialect.{Dialect}
-use Rattle.lines.specs.Lines.{LineAnswer, lineFeed, longest}
+use Rattle.requests.specs.declared.Dialect.{Dialect}
+use Rattle.lines.specs.Lines.{LineAnswer}
+use Rattle.requests.specs.Requests.{lineFeed, longest}
 use Rattle.transcripts.specs.Transcript.{Program, Run, writtenBefore, atLineEnd, runWith, keptLine, run}
 use Rattle.transcripts.specs.Consoles.{lineLength}
 

@@ -6,9 +6,10 @@ use mathlib.Core.List.{[], _∷_}
 use lib.ListN.{length, take}
 use lib.Dec.{eqb}
 use Rattle.octets.specs.Octets.{Bytes, filled}
-use Rattle.lines.specs.declared.Dialect.{Dialect}
-use Rattle.lines.specs.Lines.{lineFeed}
-use Rattle.lines.specs.Terminals.{setupOf, terminalFor, Put}
+use Rattle.requests.specs.declared.Dialect.{Dialect}
+use Rattle.requests.specs.Requests.{lineFeed}
+use Rattle.lines.specs.Terminals.{setupOf, terminalFor}
+use Rattle.line_texts.specs.Puts.{Put}
 use Rattle.transcripts.specs.Transcript.{Program, Run, keptLine, run}
 use Rattle.transcripts.specs.declared.Console.{Console}
 use Rattle.transcripts.specs.declared.FirstLine.{FirstLine}

@@ -8,9 +8,10 @@ use lib.ListN.{length, take}
 use lib.Dec.{eqb}
 use Rattle.octets.specs.Octets.{Bytes, allBytes}
 use Rattle.rules.specs.Sample.{sampleCard}
-use Rattle.lines.specs.declared.Dialect.{Dialect}
-use Rattle.lines.specs.declared.Dialect.the-variants.{Transcript, StandIn}
-use Rattle.lines.specs.Lines.{Setup, LineAnswer, lineFeed, longest, answerLine}
+use Rattle.requests.specs.declared.Dialect.{Dialect}
+use Rattle.requests.specs.declared.Dialect.the-variants.{Transcript, StandIn}
+use Rattle.lines.specs.Lines.{Setup, LineAnswer, answerLine}
+use Rattle.requests.specs.Requests.{lineFeed, longest}
 
 -- A program between two characters: what it holds, and the line as far as it has come.
 pub record Program : Type 0 where

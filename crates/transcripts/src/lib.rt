@@ -1,12 +1,12 @@
 // The input of the line programs, answered line by line.
-use lines::Dialect;
 use lines::Terminal;
+use requests::Dialect;
 ghost use mathlib.Core.Path.{_≡_};
 ghost use mathlib.Core.List.{_++_};
 ghost use Prim.Native.Nat.{_≤_, suc};
 ghost use lib.ListN.{length, take};
 ghost use Rattle.octets.specs.Octets.{filled};
-ghost use Rattle.lines.specs.Lines.{longest};
+ghost use Rattle.requests.specs.Requests.{longest};
 ghost use Rattle.transcripts.specs.Transcript.{keptLine, run, finished, start, firstBuffer};
 ghost use Rattle.transcripts.specs.Consoles.{lineLength, programOf, Holds, Reads, ReadsFirst};
 
@@ -64,6 +64,7 @@ fn keep(dialect: Dialect, line: &mut [u8; 4097], n: usize, more: &[u8]) -> usize
     numbers::sum_within(have, more.len(), most)
 }
 
+// Answers the first line of an input, or keeps what there is of it where the input ends before the line does.
 fn first_line(
     dialect: Dialect,
     console: Console,

@@ -1,4 +1,4 @@
--- The measure is the number of turns left; the buffers keep their lengths.
+-- The measure is the number of turns left; the output keeps its length.
 use mathlib.Core.Path.{_≡_, refl}
 use native.Mathlib.Omega.{arith}
 use lib.ListN.{length}
@@ -8,23 +8,20 @@ use Rattle.line_programs.proofs.read_all.Tie as tie
 
 abbrev Inv-loop : tie.InvT-loop
 Inv-loop dialect input₀ line₀ authentication₀ signature₀ output₀ next₀ left₀ input line authentication signature output next left =
-    (length input ≡ length input₀) × (length output ≡ length output₀)
+    length output ≡ length output₀
 
 abbrev μ-loop : tie.MeasureT-loop
 μ-loop dialect input₀ line₀ authentication₀ signature₀ output₀ next₀ left₀ input line authentication signature output next left =
     left
 
 loop-holds : tie.Need-loop-holds Inv-loop μ-loop
-loop-holds c = (refl, refl)
+loop-holds c = refl
 
 read-some-requires : tie.Need-read-some-requires Inv-loop μ-loop
 read-some-requires c κs = search needs
 
 same-length : tie.Need-same-length Inv-loop μ-loop
-same-length c = omega (arith, c .before .before .before .before .before .before .read-some .kept, c .before .before .before .before .before .before .before .before .before .before .before .before .before .loop .inv .0)
-
-same-length-2 : tie.Need-same-length-2 Inv-loop μ-loop
-same-length-2 c = omega (arith, c .before .before .before .before .before .before .read-some .kept, c .before .before .before .before .before .before .before .before .before .before .before .before .before .loop .inv .1)
+same-length c = omega (arith, c .before .before .before .before .before .before .before .before .before .read-some .kept, c .before .before .before .before .before .before .before .before .before .before .before .before .before .before .before .before .loop .inv)
 
 returns : tie.Need-returns Inv-loop μ-loop
 returns c = tt
@@ -36,13 +33,10 @@ loop-less : tie.Need-loop-less Inv-loop μ-loop
 loop-less c = omega (arith, c .before .before .before .before .before .before .before .before .before .before .before .before .before .loop-test)
 
 loop-again : tie.Need-loop-again Inv-loop μ-loop
-loop-again c = (omega (arith, c .before .before .before .before .before .before .before .read-some .kept, c .before .before .before .before .before .before .before .before .before .before .before .before .before .before .loop .inv .0), omega (arith, c .before .before .before .before .before .before .before .read-some .kept, c .before .before .before .before .before .before .before .before .before .before .before .before .before .before .loop .inv .1))
+loop-again c = omega (arith, c .before .before .before .before .before .before .before .read-some .kept, c .before .before .before .before .before .before .before .before .before .before .before .before .before .before .loop .inv)
 
-same-length-3 : tie.Need-same-length-3 Inv-loop μ-loop
-same-length-3 c = c .before .loop .inv .0
-
-same-length-4 : tie.Need-same-length-4 Inv-loop μ-loop
-same-length-4 c = c .before .loop .inv .1
+same-length-2 : tie.Need-same-length-2 Inv-loop μ-loop
+same-length-2 c = c .before .loop .inv
 
 returns-2 : tie.Need-returns-2 Inv-loop μ-loop
 returns-2 c = tt
@@ -56,11 +50,9 @@ read-all-spec =
     loop-holds
     read-some-requires
     same-length
-    same-length-2
     returns
     sub-left
     loop-less
     loop-again
-    same-length-3
-    same-length-4
+    same-length-2
     returns-2)

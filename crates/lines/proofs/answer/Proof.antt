@@ -28,7 +28,7 @@ same-length c = search needs
 returns : tie.Need-returns
 returns c =
     let a = c .before .before .before .before .before .before .before .before .before .before .before .before .before .before .before .before .before .before .before .before .before .before .args in
-    line-answered (a .dialect) (a .terminal) (now (a .line)) (now (a .authentication)) (now (a .signature)) (c .before .before .before .before .before .before .before .before .before .before .before .before .before .before .before .before .before .asked .ensures) (c .before .before .before .before .before .before .before .before .before .before .before .before .part .ensures) (c .before .before .before .before .before .before .before .before .before .part2 .ensures) (c .before .before .before .before .before .before .before .carry .ensures) (c .settled .ensures)
+    line-answered (a .dialect) (a .terminal) (now (a .line)) (now (a .authentication)) (now (a .signature)) (c .before .before .before .before .before .before .before .before .before .before .before .before .before .before .before .before .before .asked .ensures .0) (c .before .before .before .before .before .before .before .before .before .before .before .before .part .ensures) (c .before .before .before .before .before .before .before .before .before .part2 .ensures) (c .before .before .before .before .before .before .before .carry .ensures) (c .settled .ensures)
 
 pub answer-spec : {M : Type 1} → statement M
 answer-spec =

@@ -2,8 +2,9 @@ use mathlib.Core.Path.{ap}
 use mathlib.Core.List.{[], _∷_, _++_}
 use Rattle.rules.specs.declared.Card.{Card}
 use Rattle.rules.specs.Numbers.{Returned}
-use Rattle.lines.specs.Lines.{lineFeed, replyText}
-use Rattle.lines.proofs.Texts.{put-same}
+use Rattle.requests.specs.Requests.{lineFeed}
+use Rattle.line_texts.specs.Texts.{replyText}
+use Rattle.line_texts.proofs.Texts.{put-same}
 use borrow.Author.Needs.{needs}
 use Rattle.lines.proofs.answer_reset.Statement.{statement}
 use Rattle.lines.proofs.answer_reset.Tie as tie

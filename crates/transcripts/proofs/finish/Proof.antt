@@ -6,7 +6,7 @@ use lib.Dec.{eqb}
 use lib.ListN.{length, take}
 use denote.Ref.{now}
 use Rattle.octets.specs.Octets.{Bytes}
-use Rattle.lines.specs.Lines.{lineFeed}
+use Rattle.requests.specs.Requests.{lineFeed}
 use Rattle.transcripts.specs.Transcript.{keptLine, finished}
 use Rattle.transcripts.proofs.Reading.{last-feed}
 use borrow.Author.Needs.{needs}

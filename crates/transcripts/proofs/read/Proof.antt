@@ -5,7 +5,7 @@ use borrow.Author.Needs.{needs}
 use lib.ListN.{length, drop, length-drop}
 use denote.Ref.{now}
 use Rattle.octets.proofs.Strings.{take-rest}
-use Rattle.lines.proofs.Texts.{length-pasted}
+use Rattle.octets.proofs.Pasting.{length-pasted}
 use Rattle.transcripts.specs.Consoles.{programOf}
 use Rattle.transcripts.proofs.Reading.{Reached, reached-start, reached-more, reached-end}
 use Rattle.transcripts.proofs.read.Statement.{statement}

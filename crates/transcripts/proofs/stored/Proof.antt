@@ -1,7 +1,7 @@
 use mathlib.Core.Path.{ap, _∙_}
 use lib.ListN.{length, take}
 use denote.Ref.{now}
-use Rattle.lines.proofs.Texts.{length-pasted}
+use Rattle.octets.proofs.Pasting.{length-pasted}
 use Rattle.transcripts.proofs.Rooms.{stored-front}
 use Rattle.transcripts.proofs.Reading.{sized}
 use borrow.Author.Needs.{needs}
