@@ -3,4 +3,12 @@ use mathlib.Core.Path.{refl}
 use Rattle.cases.specs.NumberCases.{NumbersShown}
 
 pub numbers-shown : NumbersShown
-numbers-shown = record { kinds = refl; refusals = refl; faults = refl; loads = refl; replies = refl; forms = refl }
+numbers-shown = record {
+  kinds = refl;
+  refusals = refl;
+  faults = refl;
+  loads = refl;
+  replies = refl;
+  forms = refl;
+  named = refl;
+}

@@ -7,7 +7,7 @@ use Rattle.octets.specs.Octets.{Bytes}
 use Rattle.pkcs1.specs.Pkcs1.{pad, strip}
 use Rattle.rules.specs.Sample.{sampleCard, references}
 use Rattle.rules.specs.Cases.{shows, refuses, deliverTo, sw, fresh}
-use Rattle.cases.specs.Turns.{Fact, _is_, Holds, Run, Turn, _⇒_, from, Shown, marks, readRecord, getResponse}
+use Rattle.cases.specs.Turns.{Fact, _is_, Holds, Run, Turn, _⇒_, from, Shown, marks, recordRead, getResponse}
 use Rattle.cases.specs.Turns.{sending, selectRoot, block, sampleMarks, secondOpen, at, inEnvironment, waiting}
 
 -- 256 bytes that stripping takes, with a message: 00 02, non-zero bytes, 00, message. With another start; with n
@@ -115,7 +115,7 @@ deliveries =
       card = waiting 1 0x1100 0 (at 0xEEEE 0x0033 (sampleMarks true true true));
       turns =
           deliverTo (result 1) ⇒ sw 0x6400
-          ∷ readRecord 1 ⇒ shows references 0x9000
+          ∷ recordRead 1 ⇒ shows references 0x9000
           ∷ [];
       codes = marks true true true;
     }

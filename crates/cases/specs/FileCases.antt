@@ -9,7 +9,7 @@ use Rattle.rules.specs.Sample.{sampleCard, references}
 use Rattle.rules.specs.Cases.{shows, buffer, sw, fresh}
 use Rattle.cases.specs.SecondCard.{secondCard, secondReferences, texts}
 use Rattle.cases.specs.Turns.{Run, Turn, _⇒_, from, Shown, tries, selectRoot, selectDirectory, selectFile}
-use Rattle.cases.specs.Turns.{readRecord, getResponse, sampleTries, at, counted}
+use Rattle.cases.specs.Turns.{recordRead, getResponse, sampleTries, at, counted}
 
 -- Records of 0016h: a PIN's and the PUK's.
 abbrev pub pinShows : ℕ → Bytes
@@ -34,7 +34,7 @@ readGreat p1 p2 le =
 
 -- Personal record n of the second card is its text n.
 abbrev pub personalTurn : ℕ → Turn
-personalTurn n = readRecord n ⇒ shows (getD texts (n - 1) []) 0x9000
+personalTurn n = recordRead n ⇒ shows (getD texts (n - 1) []) 0x9000
 
 unfoldable pub files : List Run
 files =
@@ -42,9 +42,9 @@ files =
     record {
       card = at 0x3F00 0x0016 sampleCard;
       turns =
-          readRecord 3 ⇒ shows (pukShows 3) 0x9000
+          recordRead 3 ⇒ shows (pukShows 3) 0x9000
           ∷ selectRoot ⇒ sw 0x9000
-          ∷ readRecord 3 ⇒ sw 0x6986
+          ∷ recordRead 3 ⇒ sw 0x6986
           ∷ [];
       codes = fresh;
     }
@@ -52,7 +52,7 @@ files =
       card = at 0xEEEE 0x5044 sampleCard;
       turns =
           selectRoot ⇒ sw 0x9000
-          ∷ readRecord 1 ⇒ sw 0x6986
+          ∷ recordRead 1 ⇒ sw 0x6986
           ∷ selectFile 0x50 0x44 ⇒ sw 0x6A82
           ∷ selectFile 0x00 0x16 ⇒ sw 0x9000
           ∷ [];
@@ -64,11 +64,11 @@ files =
       card = at 0x3F00 0x0016 sampleCard;
       turns =
           selectDirectory 0xEE 0xEE ⇒ sw 0x9000
-          ∷ readRecord 1 ⇒ sw 0x6986
+          ∷ recordRead 1 ⇒ sw 0x6986
           ∷ selectFile 0x50 0x44 ⇒ sw 0x9000
-          ∷ readRecord 16 ⇒ shows (0x20 ∷ []) 0x9000
+          ∷ recordRead 16 ⇒ shows (0x20 ∷ []) 0x9000
           ∷ selectFile 0x00 0x33 ⇒ sw 0x9000
-          ∷ readRecord 1 ⇒ shows references 0x9000
+          ∷ recordRead 1 ⇒ shows references 0x9000
           ∷ selectFile 0xAA 0xCE ⇒ sw 0x9000
           ∷ readBinary 0x00 0x00 0x01 ⇒ shows (0xA1 ∷ []) 0x9000
           ∷ selectFile 0xDD 0xCE ⇒ sw 0x9000
@@ -87,7 +87,7 @@ files =
           ∷ selectFile 0x00 0x00 ⇒ sw 0x6A82
           ∷ selectFile 0xEE 0xEE ⇒ sw 0x6A82
           ∷ selectFile 0x44 0x50 ⇒ sw 0x6A82
-          ∷ readRecord 1 ⇒ shows (0x20 ∷ []) 0x9000
+          ∷ recordRead 1 ⇒ shows (0x20 ∷ []) 0x9000
           ∷ selectFile 0x00 0x33 ⇒ sw 0x9000
           ∷ [];
       codes = fresh;
@@ -102,34 +102,34 @@ files =
           ∷ selectFile 0x00 0x33 ⇒ sw 0x6A82
           ∷ selectFile 0xAA 0xCE ⇒ sw 0x6A82
           ∷ selectFile 0x00 0x00 ⇒ sw 0x6A82
-          ∷ readRecord 1 ⇒ shows (pinShows 3) 0x9000
+          ∷ recordRead 1 ⇒ shows (pinShows 3) 0x9000
           ∷ selectFile 0x00 0x16 ⇒ sw 0x9000
           ∷ [];
       codes = fresh;
     }
     -- B2: no file 6986, in either directory and for any record
-    ∷ from sampleCard (readRecord 1 ⇒ sw 0x6986 ∷ readRecord 0xFF ⇒ sw 0x6986 ∷ []) fresh
-    ∷ from (at 0xEEEE 0x0000 secondCard) (readRecord 1 ⇒ sw 0x6986 ∷ []) (tries 3 2 1)
+    ∷ from sampleCard (recordRead 1 ⇒ sw 0x6986 ∷ recordRead 0xFF ⇒ sw 0x6986 ∷ []) fresh
+    ∷ from (at 0xEEEE 0x0000 secondCard) (recordRead 1 ⇒ sw 0x6986 ∷ []) (tries 3 2 1)
     -- B2: certificate 6981, before 6A83
-    ∷ from (at 0xEEEE 0xAACE sampleCard) (readRecord 1 ⇒ sw 0x6981 ∷ readRecord 0xFF ⇒ sw 0x6981 ∷ []) fresh
-    ∷ from (at 0xEEEE 0xDDCE sampleCard) (readRecord 1 ⇒ sw 0x6981 ∷ []) fresh
+    ∷ from (at 0xEEEE 0xAACE sampleCard) (recordRead 1 ⇒ sw 0x6981 ∷ recordRead 0xFF ⇒ sw 0x6981 ∷ []) fresh
+    ∷ from (at 0xEEEE 0xDDCE sampleCard) (recordRead 1 ⇒ sw 0x6981 ∷ []) fresh
     -- B2 of 0016h: records 1 to 3 for PIN1, PIN2, PUK, t the tries left; beyond the last 6A83
     ∷ record {
       card = at 0x3F00 0x0016 secondCard;
       turns =
-          readRecord 1 ⇒ shows (pinShows 2) 0x9000
-          ∷ readRecord 2 ⇒ shows (pinShows 1) 0x9000
-          ∷ readRecord 3 ⇒ shows (pukShows 3) 0x9000
-          ∷ readRecord 4 ⇒ sw 0x6A83
+          recordRead 1 ⇒ shows (pinShows 2) 0x9000
+          ∷ recordRead 2 ⇒ shows (pinShows 1) 0x9000
+          ∷ recordRead 3 ⇒ shows (pukShows 3) 0x9000
+          ∷ recordRead 4 ⇒ sw 0x6A83
           ∷ [];
       codes = tries 3 2 1;
     }
     ∷ record {
       card = at 0x3F00 0x0016 (sampleTries 1 0 2);
       turns =
-          readRecord 1 ⇒ shows (pinShows 0) 0x9000
-          ∷ readRecord 2 ⇒ shows (pinShows 2) 0x9000
-          ∷ readRecord 3 ⇒ shows (pukShows 1) 0x9000
+          recordRead 1 ⇒ shows (pinShows 0) 0x9000
+          ∷ recordRead 2 ⇒ shows (pinShows 2) 0x9000
+          ∷ recordRead 3 ⇒ shows (pukShows 1) 0x9000
           ∷ [];
       codes = tries 1 0 2;
     }
@@ -137,14 +137,14 @@ files =
     ∷ record {
       card = at 0xEEEE 0x0033 secondCard;
       turns =
-          readRecord 1 ⇒ shows secondReferences 0x9000
-          ∷ readRecord 2 ⇒ sw 0x6A83
+          recordRead 1 ⇒ shows secondReferences 0x9000
+          ∷ recordRead 2 ⇒ sw 0x6A83
           ∷ [];
       codes = tries 3 2 1;
     }
     -- B2 of 5044h: 16 records of 1 to 64 bytes
     ∷ from (at 0xEEEE 0x5044 secondCard) (map personalTurn (counted 16 1)) (tries 3 2 1)
-    ∷ from (at 0xEEEE 0x5044 secondCard) (readRecord 17 ⇒ sw 0x6A83 ∷ readRecord 0xFF ⇒ sw 0x6A83 ∷ []) (tries 3 2 1)
+    ∷ from (at 0xEEEE 0x5044 secondCard) (recordRead 17 ⇒ sw 0x6A83 ∷ recordRead 0xFF ⇒ sw 0x6A83 ∷ []) (tries 3 2 1)
     -- B0: no file 6986; record file 6981; each before 6B00
     ∷ from sampleCard (readBinary 0x00 0x00 0x01 ⇒ sw 0x6986 ∷ readBinary 0x7F 0xFF 0x01 ⇒ sw 0x6986 ∷ []) fresh
     ∷ record {

@@ -18,8 +18,8 @@ use Rattle.cases.specs.Turns.{fives, nines, counted, sieved, bytes, Fact
 -- references 29, the record of 0033h 30 to 50; the count of the records 51, the first record 52, the last 82.
 
 -- The sample image up to a place, and other bytes from there on; with other bytes in a place.
-abbrev pub upTo : ℕ → Bytes → Bytes
-upTo n d = take n sampleImage ++ d
+abbrev pub cutAt : ℕ → Bytes → Bytes
+cutAt n d = take n sampleImage ++ d
 
 abbrev pub having : ℕ → Bytes → Bytes
 having n d = take n sampleImage ++ (d ++ drop (n + length d) sampleImage)
@@ -37,7 +37,7 @@ withCodesIn a b c = 3 ∷ (a ++ (b ++ (c ++ restOfSample)))
 -- The sample image with other keys, and references to two of them.
 abbrev pub withKeysIn : Bytes → ℕ → ℕ → Bytes
 withKeysIn keys a b =
-    upTo 24 (keys ++ 21 ∷ (replicate 9 0x00 ++ a ∷ 0x00 ∷ (replicate 8 0x00 ++ b ∷ 0x00 ∷ (16 ∷ imageRecords 16))))
+    cutAt 24 (keys ++ 21 ∷ (replicate 9 0x00 ++ a ∷ 0x00 ∷ (replicate 8 0x00 ++ b ∷ 0x00 ∷ (16 ∷ imageRecords 16))))
 
 -- The number that load gives an image; the numbers of images.
 abbrev pub numberOf : Bytes → ℕ
@@ -78,12 +78,12 @@ wrongCodes =
     ∷ having 11 (13 ∷ [])
     -- PIN2 of 4 and of 13
     ∷ having 17 (4 ∷ [])
-    ∷ upTo 17 (13 ∷ [])
+    ∷ cutAt 17 (13 ∷ [])
     -- a byte that is no digit, the first and the last of each code
-    ∷ upTo 2 (0x2F ∷ [])
+    ∷ cutAt 2 (0x2F ∷ [])
     ∷ having 9 (0x3A ∷ [])
     ∷ having 12 (0x3A ∷ [])
-    ∷ upTo 15 (0x2F ∷ [])
+    ∷ cutAt 15 (0x2F ∷ [])
     ∷ having 18 (0x2F ∷ [])
     ∷ having 22 (0x3A ∷ [])
     -- 4 tries
@@ -96,9 +96,9 @@ wrongCodes =
 unfoldable pub wrongKeys : List Bytes
 wrongKeys =
     -- an unknown key in either place, at its second byte
-    upTo 25 (0x03 ∷ 0x00 ∷ [])
+    cutAt 25 (0x03 ∷ 0x00 ∷ [])
     ∷ having 25 (0x10 ∷ 0x00 ∷ [])
-    ∷ upTo 27 (0x13 ∷ 0x00 ∷ [])
+    ∷ cutAt 27 (0x13 ∷ 0x00 ∷ [])
     ∷ having 27 (0x11 ∷ 0x01 ∷ [])
     ∷ having 27 (0xFF ∷ 0xFF ∷ [])
     -- falling, and twice the same
@@ -107,9 +107,9 @@ wrongKeys =
     ∷ withKeysIn (4 ∷ 0x01 ∷ 0x00 ∷ 0x02 ∷ 0x00 ∷ 0x12 ∷ 0x00 ∷ 0x11 ∷ 0x00 ∷ []) 0x11 0x01
     ∷ withKeysIn (3 ∷ 0x01 ∷ 0x00 ∷ 0x01 ∷ 0x00 ∷ 0x11 ∷ 0x00 ∷ []) 0x11 0x01
     -- no authentication key, no signature key, after the last key and before the next count
-    ∷ upTo 24 (2 ∷ 0x01 ∷ 0x00 ∷ 0x02 ∷ 0x00 ∷ [])
-    ∷ upTo 24 (2 ∷ 0x11 ∷ 0x00 ∷ 0x12 ∷ 0x00 ∷ [])
-    ∷ upTo 24 (2 ∷ 0x01 ∷ 0x00 ∷ 0x02 ∷ 0x00 ∷ 0x00 ∷ [])
+    ∷ cutAt 24 (2 ∷ 0x01 ∷ 0x00 ∷ 0x02 ∷ 0x00 ∷ [])
+    ∷ cutAt 24 (2 ∷ 0x11 ∷ 0x00 ∷ 0x12 ∷ 0x00 ∷ [])
+    ∷ cutAt 24 (2 ∷ 0x01 ∷ 0x00 ∷ 0x02 ∷ 0x00 ∷ 0x00 ∷ [])
     ∷ []
 
 -- 25: reference not a present key of its class, after byte 21 and before the next count.
@@ -126,8 +126,8 @@ wrongReferences =
     ∷ having 49 (0x00 ∷ 0x00 ∷ [])
     ∷ having 49 (0x01 ∷ 0x01 ∷ [])
     -- with nothing behind it, and with a wrong count
-    ∷ upTo 30 (replicate 21 0x00)
-    ∷ upTo 30 (replicate 21 0x00 ++ 0x00 ∷ [])
+    ∷ cutAt 30 (replicate 21 0x00)
+    ∷ cutAt 30 (replicate 21 0x00 ++ 0x00 ∷ [])
     ∷ []
 
 -- 26: record length 0 and 65, of the first record and of the last, at once.
@@ -136,12 +136,12 @@ wrongRecords =
     having 52 (0 ∷ [])
     ∷ having 52 (65 ∷ [])
     ∷ having 82 (0 ∷ [])
-    ∷ upTo 82 (65 ∷ [])
+    ∷ cutAt 82 (65 ∷ [])
     ∷ []
 
 -- 27: bytes left over.
-unfoldable pub longer : List Bytes
-longer =
+unfoldable pub leftOver : List Bytes
+leftOver =
     (sampleImage ++ 0x00 ∷ [])
     ∷ (sampleImage ++ sampleImage)
     ∷ (secondImage ++ 0xFF ∷ [])
@@ -151,11 +151,11 @@ longer =
 -- after byte 21, a record's bytes.
 unfoldable pub early : List Bytes
 early =
-    upTo 1 (12 ∷ puk)
-    ∷ upTo 25 (0xFF ∷ [])
-    ∷ upTo 27 (0x01 ∷ [])
-    ∷ upTo 30 (replicate 20 0x00)
-    ∷ upTo 52 (64 ∷ replicate 63 0x20)
+    cutAt 1 (12 ∷ puk)
+    ∷ cutAt 25 (0xFF ∷ [])
+    ∷ cutAt 27 (0x01 ∷ [])
+    ∷ cutAt 30 (replicate 20 0x00)
+    ∷ cutAt 52 (64 ∷ replicate 63 0x20)
     ∷ []
 
 -- The bytes that are not answered by a number where they end an image: what a place takes.
@@ -166,28 +166,28 @@ unfoldable pub placeRanges : List (Fact (List ℕ))
 placeRanges =
     -- the count of the codes, 3; PUK of 8 to 12, PIN1 of 4 to 12, PIN2 of 5 to 12
     taken 22 (λ x. x ∷ []) is (3 ∷ [])
-    ∷ taken 23 (λ x. upTo 1 (x ∷ [])) is counted 5 8
-    ∷ taken 23 (λ x. upTo 11 (x ∷ [])) is counted 9 4
-    ∷ taken 23 (λ x. upTo 17 (x ∷ [])) is counted 8 5
+    ∷ taken 23 (λ x. cutAt 1 (x ∷ [])) is counted 5 8
+    ∷ taken 23 (λ x. cutAt 11 (x ∷ [])) is counted 9 4
+    ∷ taken 23 (λ x. cutAt 17 (x ∷ [])) is counted 8 5
     -- digits 30h to 39h; 0 to 3 tries
-    ∷ taken 23 (λ x. upTo 2 (x ∷ [])) is counted 10 0x30
-    ∷ taken 23 (λ x. upTo 15 (x ∷ [])) is counted 10 0x30
-    ∷ taken 23 (λ x. upTo 10 (x ∷ [])) is counted 4 0
-    ∷ taken 23 (λ x. upTo 16 (x ∷ [])) is counted 4 0
-    ∷ taken 23 (λ x. upTo 23 (x ∷ [])) is counted 4 0
+    ∷ taken 23 (λ x. cutAt 2 (x ∷ [])) is counted 10 0x30
+    ∷ taken 23 (λ x. cutAt 15 (x ∷ [])) is counted 10 0x30
+    ∷ taken 23 (λ x. cutAt 10 (x ∷ [])) is counted 4 0
+    ∷ taken 23 (λ x. cutAt 16 (x ∷ [])) is counted 4 0
+    ∷ taken 23 (λ x. cutAt 23 (x ∷ [])) is counted 4 0
     -- the count of the keys, 2 to 4; the keys, at the second byte
-    ∷ taken 22 (λ x. upTo 24 (x ∷ [])) is counted 3 2
-    ∷ taken 24 (λ x. upTo 25 (x ∷ [])) is bytes
-    ∷ taken 24 (λ x. upTo 25 (x ∷ 0x00 ∷ [])) is (0x01 ∷ 0x02 ∷ 0x11 ∷ 0x12 ∷ [])
-    ∷ taken 24 (λ x. upTo 25 (0x01 ∷ x ∷ [])) is (0x00 ∷ [])
-    ∷ taken 24 (λ x. upTo 25 (0x02 ∷ x ∷ [])) is (0x00 ∷ [])
-    ∷ taken 24 (λ x. upTo 25 (0x11 ∷ x ∷ [])) is (0x00 ∷ [])
-    ∷ taken 24 (λ x. upTo 25 (0x12 ∷ x ∷ [])) is (0x00 ∷ [])
+    ∷ taken 22 (λ x. cutAt 24 (x ∷ [])) is counted 3 2
+    ∷ taken 24 (λ x. cutAt 25 (x ∷ [])) is bytes
+    ∷ taken 24 (λ x. cutAt 25 (x ∷ 0x00 ∷ [])) is (0x01 ∷ 0x02 ∷ 0x11 ∷ 0x12 ∷ [])
+    ∷ taken 24 (λ x. cutAt 25 (0x01 ∷ x ∷ [])) is (0x00 ∷ [])
+    ∷ taken 24 (λ x. cutAt 25 (0x02 ∷ x ∷ [])) is (0x00 ∷ [])
+    ∷ taken 24 (λ x. cutAt 25 (0x11 ∷ x ∷ [])) is (0x00 ∷ [])
+    ∷ taken 24 (λ x. cutAt 25 (0x12 ∷ x ∷ [])) is (0x00 ∷ [])
     -- the count of the references, 21; of the records, 16; a record of 1 to 64
-    ∷ taken 22 (λ x. upTo 29 (x ∷ [])) is (21 ∷ [])
-    ∷ taken 22 (λ x. upTo 51 (x ∷ [])) is (16 ∷ [])
-    ∷ taken 26 (λ x. upTo 52 (x ∷ [])) is counted 64 1
-    ∷ taken 26 (λ x. upTo 82 (x ∷ [])) is counted 64 1
+    ∷ taken 22 (λ x. cutAt 29 (x ∷ [])) is (21 ∷ [])
+    ∷ taken 22 (λ x. cutAt 51 (x ∷ [])) is (16 ∷ [])
+    ∷ taken 26 (λ x. cutAt 52 (x ∷ [])) is counted 64 1
+    ∷ taken 26 (λ x. cutAt 82 (x ∷ [])) is counted 64 1
     ∷ []
 
 -- The first fault in reading order: of two, the one that stands first.
@@ -196,10 +196,10 @@ twice =
     -- 22 before 23; 23 before 22; 22 before 24; 24 before 25; 25 before 22; 22 before 26; 26 before 27
     numberOf (0x04 ∷ 0x07 ∷ []) is 22
     ∷ numberOf (0x03 ∷ 0x07 ∷ replicate 30 0x00) is 23
-    ∷ numberOf (upTo 24 (5 ∷ 0x03 ∷ 0x00 ∷ [])) is 22
-    ∷ numberOf (upTo 25 (0x03 ∷ 0x00 ∷ 0x11 ∷ 0x00 ∷ 21 ∷ replicate 21 0x00)) is 24
-    ∷ numberOf (upTo 30 (replicate 21 0x00 ++ 17 ∷ 65 ∷ [])) is 25
-    ∷ numberOf (upTo 51 (17 ∷ 65 ∷ [])) is 22
+    ∷ numberOf (cutAt 24 (5 ∷ 0x03 ∷ 0x00 ∷ [])) is 22
+    ∷ numberOf (cutAt 25 (0x03 ∷ 0x00 ∷ 0x11 ∷ 0x00 ∷ 21 ∷ replicate 21 0x00)) is 24
+    ∷ numberOf (cutAt 30 (replicate 21 0x00 ++ 17 ∷ 65 ∷ [])) is 25
+    ∷ numberOf (cutAt 51 (17 ∷ 65 ∷ [])) is 22
     ∷ numberOf (having 82 (65 ∷ []) ++ 0x00 ∷ []) is 26
     ∷ []
 
@@ -287,7 +287,7 @@ pub record ImagesShown : Type 0 where
   pub keys : numbers wrongKeys ≡ replicate (length wrongKeys) 24
   pub references : numbers wrongReferences ≡ replicate (length wrongReferences) 25
   pub records : numbers wrongRecords ≡ replicate (length wrongRecords) 26
-  pub longer : numbers longer ≡ replicate (length longer) 27
+  pub leftOver : numbers leftOver ≡ replicate (length leftOver) 27
   pub early : numbers early ≡ replicate (length early) 21
   pub places : Holds placeRanges
   pub first : Holds twice

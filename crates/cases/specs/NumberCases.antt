@@ -11,7 +11,9 @@ use Rattle.rules.specs.declared.Fault.the-variants.{EndsEarly, WrongCount, BadC
 use Rattle.rules.specs.declared.Fault.the-variants.{RecordLength, LeftOver}
 use Rattle.rules.specs.declared.LoadResult.the-variants.{Accepted, Faulty}
 use Rattle.rules.specs.Numbers.{kindNumber, refusalNumber, edge, responded, handedOut, wasReset, returned}
-use Rattle.rules.specs.Numbers.{faultNumber, loadNumber, form, refused, lengthForm}
+use Rattle.rules.specs.declared.Named.the-variants.{Is, Nothing}
+use Rattle.rules.specs.declared.Command.the-variants.{Verify}
+use Rattle.rules.specs.Numbers.{faultNumber, loadNumber, form, refused, lengthForm, names, namesNone, naming}
 
 -- Some header.
 abbrev pub verifyHeader : Header
@@ -35,3 +37,5 @@ pub record NumbersShown : Type 0 where
       ≡ edge 2 ∷ responded 12 ∷ handedOut 2 0x0200 ∷ wasReset ∷ []
   -- the length form: a header and where its data start, or 6700
   pub forms : map lengthForm (Form verifyHeader 5 ∷ Malformed ∷ []) ≡ form verifyHeader 5 ∷ refused 0x6700 ∷ []
+  -- the command that a header names, or 6A86
+  pub named : map naming (Is Verify ∷ Nothing ∷ []) ≡ names Verify ∷ namesNone 0x6A86 ∷ []

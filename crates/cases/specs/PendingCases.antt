@@ -14,7 +14,7 @@ use Rattle.rules.specs.Cases.{shows, send, deliverTo, verifyOf, signSha1, choos
 use Rattle.rules.specs.Cases.{buffer, refuses}
 use Rattle.cases.specs.SecondCard.{secondCard, text}
 use Rattle.cases.specs.Turns.{Fact, _is_, Holds, Run, _⇒_, from, Shown, tries, inClass, bare, withLe, sending}
-use Rattle.cases.specs.Turns.{selectRoot, selectDirectory, selectFile, readRecord, getResponse, environment}
+use Rattle.cases.specs.Turns.{selectRoot, selectDirectory, selectFile, recordRead, getResponse, environment}
 use Rattle.cases.specs.Turns.{fives, withSession, sampleTries, sampleMarks, at, inEnvironment, chained, waiting}
 
 -- A card in file 0016h with a held answer of 10 bytes and a chain of 255.
@@ -55,8 +55,8 @@ dropping =
     ∷ selectDirectory 0xEE 0xEE
     ∷ selectFile 0x50 0x44
     -- B2: with its data, and 6A83; B0: 6981
-    ∷ readRecord 1
-    ∷ readRecord 4
+    ∷ recordRead 1
+    ∷ recordRead 4
     ∷ withLe 0xB0 0x00 0x00 0x00
     -- 20: right and wrong; 24: stored, wrong and 6A80; 2C: 6A86
     ∷ verifyOf PIN1 pin1

@@ -112,8 +112,8 @@ badCodes n =
     ∷ []
 
 -- Codes of least length n that are good: both ends of length, digits and tries, and the mark.
-abbrev pub goodCodes : ℕ → List Code
-goodCodes n =
+abbrev pub allowedCodes : ℕ → List Code
+allowedCodes n =
     codeWith (replicate n 0x30 ++ zeros (12 - n)) n 3 true
     ∷ codeWith (nines 12) 12 0 false
     ∷ codeWith (nines n ++ zeros (12 - n)) n 1 false
@@ -216,7 +216,7 @@ secondChoices n choices = withSession secondCard (withEnvironment newSession n c
 -- Good states with no job: a command is judged (6700), a delivery is refused, 5, a reset is done.
 unfoldable pub idle : List Card
 idle =
-    map withPuk (goodCodes 8) ++ map withPin1 (goodCodes 4) ++ map withPin2 (goodCodes 5)
+    map withPuk (allowedCodes 8) ++ map withPin1 (allowedCodes 4) ++ map withPin2 (allowedCodes 5)
     -- personal records of no byte and of 64
     ++ withRecord 1 (record { bytes = zeros 64; len = 0 })
     ∷ withRecord 16 (record { bytes = fives 64; len = 64 })

@@ -79,8 +79,8 @@ selectDirectory high low = sending 0xA4 0x01 0x0C (high ∷ low ∷ [])
 abbrev pub selectFile : ℕ → ℕ → Call
 selectFile high low = sending 0xA4 0x02 0x0C (high ∷ low ∷ [])
 
-abbrev pub readRecord : ℕ → Call
-readRecord n = withLe 0xB2 n 0x04 0x00
+abbrev pub recordRead : ℕ → Call
+recordRead n = withLe 0xB2 n 0x04 0x00
 
 abbrev pub getResponse : ℕ → Call
 getResponse le = withLe 0xC0 0x00 0x00 le

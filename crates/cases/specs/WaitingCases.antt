@@ -14,7 +14,7 @@ use Rattle.rules.specs.Counting.{Call, after, handsSignature}
 use Rattle.rules.specs.Sample.{sampleCard}
 use Rattle.rules.specs.Cases.{signSha1, sha1Digest, chooseKeyOf, decipherPart, sw, fresh}
 use Rattle.cases.specs.Turns.{Run, _⇒_, from, Shown, bare, sendingWithLe, secondOpen, at, inEnvironment, chained}
-use Rattle.cases.specs.Turns.{readRecord}
+use Rattle.cases.specs.Turns.{recordRead}
 
 -- The job that waits after some calls.
 abbrev pub waitingAfter : Card → List Call → Job
@@ -65,7 +65,7 @@ emptyRecord =
 unfoldable pub emptyRecords : List Run
 emptyRecords =
     -- B2 of an empty record, with Le and without
-    from emptyRecord (readRecord 2 ⇒ sw 0x9000 ∷ bare 0xB2 0x02 0x04 ⇒ sw 0x9000 ∷ []) fresh
+    from emptyRecord (recordRead 2 ⇒ sw 0x9000 ∷ bare 0xB2 0x02 0x04 ⇒ sw 0x9000 ∷ []) fresh
     ∷ []
 
 abbrev pub EmptyRecordsShown : Type 0
