@@ -1,5 +1,7 @@
 //! The goals, met or missed.
 
+use crate::text::wrapped;
+
 #[derive(Default)]
 pub struct Goals {
     lines: Vec<String>,
@@ -14,9 +16,9 @@ impl Goals {
     }
 
     pub fn print(&self) {
-        println!("\n## Goals\n");
+        println!("## Goals\n");
         for line in &self.lines {
-            println!("{line}");
+            println!("{}", wrapped(line, "  "));
         }
     }
 }

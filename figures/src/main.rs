@@ -4,6 +4,7 @@ mod goals;
 mod padding;
 mod profile;
 mod programs;
+mod text;
 mod transcripts;
 
 use goals::Goals;
@@ -13,7 +14,8 @@ use std::path::Path;
 const TOP: &str = "\
 # Figures
 
-Written by `figures/measure`, all in one run on one machine. The ratios are what counts; the times beside them differ from machine to machine.
+Written by `figures/measure`, all in one run on one machine. The ratios are what counts; the times beside them differ
+from machine to machine.
 ";
 
 fn main() -> std::io::Result<()> {

@@ -1,6 +1,7 @@
 //! Padding and stripping through the archive against the second program's, in this process.
 
 use crate::goals::Goals;
+use crate::text::paragraph;
 use second::padding::{pad, strip, BLOCK};
 use std::hint::black_box;
 use std::time::Instant;
@@ -9,7 +10,8 @@ const CALLS: usize = 10_000;
 const ROUNDS: usize = 25;
 
 // Why it may be slower, as the machine code showed it.
-const PADDING_SLOWER: &str = "The archive and plain Rust make the same two calls, one that fills memory and one that copies it; the archive's go by the linkage table, and the rest is where the linker puts the code.";
+const PADDING_SLOWER: &str = "The archive and plain Rust make the same two calls, one that fills memory and one that copies it;
+    the archive's go by the linkage table, and the rest is where the linker puts the code.";
 
 extern "C" {
     fn shoalpennant_pad(message: *const u8, message_len: usize, buffer: *mut u8, buffer_len: usize) -> usize;
@@ -66,8 +68,11 @@ impl Table {
 
 pub fn measure(goals: &mut Goals) {
     println!("\n## Padding and stripping\n");
-    println!("Through the archive against the second program's plain Rust, in one process built for release (opt-level 3); neither is inlined. The same slices for both, at each place from 0 to 48 of a cache line");
-    println!("in steps of 16; the buffer is not cleared between calls. The best of {ROUNDS} rounds of {CALLS} calls in turns.\n");
+    paragraph(&format!(
+        "Through the archive against the second program's plain Rust, in one process built for release (opt-level 3); neither
+        is inlined. The same slices for both, at each place from 0 to 48 of a cache line in steps of 16; the buffer is not
+        cleared between calls. The best of {ROUNDS} rounds of {CALLS} calls in turns."
+    ));
     println!("| call | nanoseconds | plain Rust: nanoseconds | times as fast as plain Rust |\n|---|---|---|---|");
     let mut padding = Table { rows: Vec::new() };
     for n in [0, 1, 20, 35, 51, 128, 200, 245] {
@@ -80,7 +85,11 @@ pub fn measure(goals: &mut Goals) {
     }
     stripping.add("strip without a zero byte (refused)".to_string(), strip_times(&[vec![0, 2], vec![7; 254]].concat()));
     stripping.add("strip a block that begins with 00 01 (refused)".to_string(), strip_times(&padded()));
-    println!("\nThe numbers are message bytes. From run to run these ratios differ by a twentieth, from build to build by a tenth, by where the linker puts the code.");
+    println!();
+    paragraph(
+        "The numbers are message bytes. From run to run these ratios differ by a twentieth, from build to build by a tenth, by
+        where the linker puts the code.",
+    );
     padding.judge(goals, "Padding", PADDING_SLOWER);
     stripping.judge(goals, "Stripping", "");
 }

@@ -1,6 +1,7 @@
 //! Where the transcript program's time and instructions go, by function.
 
 use crate::programs::{Input, Program};
+use crate::text::paragraph;
 use std::collections::BTreeMap;
 use std::fs::File;
 use std::path::Path;
@@ -35,8 +36,12 @@ impl Profile {
 
     pub fn print(&self, many: &Input, few: &Input) {
         println!("\n## Where it goes\n");
-        println!("`target/bin/transcript`'s time on {} lines, as perf samples it, and its instructions on {} lines, as valgrind counts them, as parts of the whole.", many.name, few.name);
-        println!("A function that the compiler put into its caller counts as the caller. To see it again, the time and then the instructions:\n");
+        paragraph(&format!(
+            "`target/bin/transcript`'s time on {} lines, as perf samples it, and its instructions on {} lines, as valgrind
+            counts them, as parts of the whole. A function that the compiler put into its caller counts as the caller. To see
+            it again, the time and then the instructions:",
+            many.name, few.name
+        ));
         println!("    second/target/release/generate 1 {} >lines", many.lines);
         println!("    perf record -e cpu-clock -o perf.data target/bin/transcript <lines >/dev/null");
         println!("    perf report -i perf.data --stdio");

@@ -3,6 +3,7 @@
 use crate::goals::Goals;
 use crate::profile::Profile;
 use crate::programs::{Input, Program};
+use crate::text::paragraph;
 use second::generate::Generator;
 use std::fs::{self, File};
 use std::io::{self, BufWriter, Write};
@@ -16,7 +17,8 @@ const FLAT: f64 = 1.1;
 const MOST_MEMORY: u64 = 8 * 1024; // kB
 const LONG_LINE: usize = 16_000_000;
 
-const OTHER_WORK: &str = "The instructions per line stay the same; the machine was shared, and its times differ by more than that from run to run.";
+const OTHER_WORK: &str = "The instructions per line stay the same; the machine was shared, and its times differ by more than
+    that from run to run.";
 
 /// The best times of the two, in seconds.
 struct Times {
@@ -48,7 +50,12 @@ pub fn measure(transcript: &Program, second: &Program, folder: &Path, goals: &mu
     let profile = Profile::of(transcript, &inputs[2], &inputs[0], folder);
     print_speed(transcript, second, &inputs, &times, &by_line);
     let speed = times[2].ratio();
-    goals.add(&format!("Transcript lines per second, {} lines, at least {SPEED} times", inputs[2].name), speed >= SPEED, format!("{speed:.2} times"), &profile.sentence());
+    goals.add(
+        &format!("Transcript lines per second, {} lines, at least {SPEED} times", inputs[2].name),
+        speed >= SPEED,
+        format!("{speed:.2} times"),
+        &profile.sentence(),
+    );
     profile.print(&inputs[2], &inputs[0]);
     print_flatness(transcript, &inputs, &times, goals);
     print_memory(transcript, &inputs, folder, goals)
@@ -72,10 +79,14 @@ fn generated(folder: &Path) -> io::Result<Vec<Input>> {
 
 fn print_speed(transcript: &Program, second: &Program, inputs: &[Input], times: &[Times], by_line: &Times) {
     println!("\n## Transcript lines per second\n");
-    println!("`target/bin/transcript` against `second-transcript`, both built for release, with the same certificates and the same answers, on the same generated lines (seed {SEED}): from a file,");
-    println!("output to /dev/null, wall time of the whole run; in the last row by pipes, each line written when the one before it has been answered. The best of {RUNS} runs in turns.");
-    println!("Both answer all that a read gave them before they read again, and write many answers together: {}", calls(transcript, second, &inputs[2]));
-    println!("On a shared machine these ratios differ by a tenth and more from run to run.\n");
+    paragraph(&format!(
+        "`target/bin/transcript` against `second-transcript`, both built for release, with the same certificates and the same
+        answers, on the same generated lines (seed {SEED}): from a file, output to /dev/null, wall time of the whole run; in the
+        last row by pipes, each line written when the one before it has been answered. The best of {RUNS} runs in turns. Both
+        answer all that a read gave them before they read again, and write these answers together: {} On a shared machine
+        these ratios differ by a tenth and more from run to run.",
+        calls(transcript, second, &inputs[2])
+    ));
     println!("| lines | transcript: lines per second | microseconds a line | second-transcript: lines per second | microseconds a line | times as fast as second-transcript |\n|---|---|---|---|---|---|");
     for (input, best) in inputs.iter().zip(times) {
         print_times(&input.name, input.lines, best);
@@ -97,7 +108,11 @@ fn calls(transcript: &Program, second: &Program, input: &Input) -> String {
 
 fn print_flatness(transcript: &Program, inputs: &[Input], times: &[Times], goals: &mut Goals) {
     println!("\n## Time per line\n");
-    println!("The same runs of `target/bin/transcript`; each smaller input is the beginning of the next larger one. Time for a line, and instructions for a line as valgrind counts them, each against {} lines.\n", inputs[0].name);
+    paragraph(&format!(
+        "The same runs of `target/bin/transcript`; each smaller input is the beginning of the next larger one. Time for a line,
+        and instructions for a line as valgrind counts them, each against {} lines.",
+        inputs[0].name
+    ));
     println!("| lines | time per line | instructions per line |\n|---|---|---|");
     let mut largest: f64 = 0.0;
     let mut same_work = true;
@@ -120,7 +135,11 @@ fn print_flatness(transcript: &Program, inputs: &[Input], times: &[Times], goals
 
 fn print_memory(transcript: &Program, inputs: &[Input], folder: &Path, goals: &mut Goals) -> io::Result<()> {
     println!("\n## Memory\n");
-    println!("The most memory that `target/bin/transcript` held (VmHWM) when it had answered all lines and waited for more; the last input is one line of {} million characters.\n", LONG_LINE / 1_000_000);
+    paragraph(&format!(
+        "The most memory that `target/bin/transcript` held (VmHWM) when it had answered all lines and waited for more; the last
+        input is one line of {} million characters.",
+        LONG_LINE / 1_000_000
+    ));
     println!("| lines | kB | part of 8 MB |\n|---|---|---|");
     let mut most = 0;
     for input in inputs.iter().chain([&long_line(folder)?]) {

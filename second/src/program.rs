@@ -2,9 +2,11 @@
 
 use crate::lines::{run, LineProgram};
 use crate::sample;
+use std::fs::{self, File};
 use std::io::{self, Write};
+use std::os::fd::AsFd;
 use std::process::{exit, ExitCode};
-use std::{env, fs};
+use std::env;
 
 /// NAME [AUTH.der SIGN.der]; without arguments the built-in certificates.
 pub fn run_card<P: LineProgram>(name: &str, start: fn(Vec<u8>, Vec<u8>) -> P) -> ExitCode {
@@ -18,9 +20,14 @@ pub fn run_card<P: LineProgram>(name: &str, start: fn(Vec<u8>, Vec<u8>) -> P) ->
         }
     };
     let ended = certificates.and_then(|(authentication, signature)| {
-        run(&mut start(authentication, signature), io::stdin().lock(), io::stdout().lock())
+        run(&mut start(authentication, signature), standard_input()?, io::stdout().lock())
     });
     report(name, ended)
+}
+
+/// Without a buffer of its own: a read of the program is a read of the system.
+fn standard_input() -> io::Result<File> {
+    Ok(File::from(io::stdin().as_fd().try_clone_to_owned()?))
 }
 
 fn report(name: &str, ended: io::Result<()>) -> ExitCode {
