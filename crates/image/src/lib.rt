@@ -429,18 +429,3 @@ pub fn load(image: &[u8]) -> Loaded
         },
     }
 }
-
-// Document 01's number of a fault.
-pub fn fault_number(fault: Fault) -> u8
-    ensures { λ r. ⌜ r ≡ faultNumber fault ⌝ }
-{
-    match fault {
-        Fault::EndsEarly => 21,
-        Fault::WrongCount => 22,
-        Fault::BadCode => 23,
-        Fault::BadKey => 24,
-        Fault::BadReference => 25,
-        Fault::RecordLength => 26,
-        Fault::LeftOver => 27,
-    }
-}

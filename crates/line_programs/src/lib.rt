@@ -1,21 +1,26 @@
 // The line programs: standard input read, answered and written to standard output.
-mod certificates;
+pub mod certificates;
 
+use libc::STDOUT_FILENO;
 use requests::Dialect;
 use streams::Reading;
 use transcripts::Console;
 use transcripts::Progress;
-ghost use mathlib.Core.Path.{_≡_};
-ghost use lib.ListN.{length, take};
-ghost use Rattle.io.specs.Counts.{clamped};
+ghost use lib.ListN.{take};
 ghost use Rattle.transcripts.specs.Transcript.{run};
-ghost use Rattle.transcripts.specs.Consoles.{programOf, Reads};
+ghost use Rattle.transcripts.specs.Consoles.{programOf, Holds, Reads};
+ghost use Rattle.line_programs.specs.Programs.{IsReading, SomeRead, Ran};
 
 // One more reading: what came, the program after it, and whether to go on.
 pub struct Turn {
     pub reading: Reading,
     pub progress: Progress,
     pub more: bool,
+}
+
+// Writes the front of the output.
+fn written(output: &[u8], n: usize) -> bool {
+    streams::written_or_said(io::write_all(STDOUT_FILENO, octets::part(output, 0, n)))
 }
 
 // Reads once, and answers what came. Each of 1,006 bytes gives at most 521 characters (`ShortOutput`), so that 524,288 hold all.
@@ -28,7 +33,7 @@ fn read_some(
     signature: &mut [u8; 2048],
     output: &mut [u8],
 ) -> Turn
-    ensures { λ r. ⌜ r .reading .count ≡ clamped (r .reading .got) (length (now (input .exit))) ⌝ }
+    ensures { λ r. ⌜ IsReading (r .reading) ⌝ }
     ensures { λ r. ⌜ Reads (run dialect (programOf dialect console (now (line .entry)) (now (authentication .entry)) (now (signature .entry))) (take (r .reading .count) (now (input .exit)))) (now (output .entry)) (now (line .exit)) (now (authentication .exit)) (now (signature .exit)) (now (output .exit)) (r .progress) ⌝ }
 {
     let reading = streams::read(input);
@@ -41,7 +46,7 @@ fn read_some(
         signature,
         output,
     );
-    let sent = streams::write_or_say(octets::part(output, 0, progress.written));
+    let sent = written(output, progress.written);
     Turn {
         reading: reading,
         progress: progress,
@@ -49,13 +54,14 @@ fn read_some(
     }
 }
 
-// The program where reading stopped, and whether that is the end of the input.
+// The program where reading stopped, and the last reading.
 pub struct Stopped {
     pub console: Console,
-    pub ended: bool,
+    pub last: Reading,
 }
 
-// A proved loop has to end, and nothing says that the input does. So the loop counts its turns down, from a number that no run uses up.
+// A proved loop has to end, and nothing says that the input does. So the loop counts its turns down, from a number that no run uses up;
+// what follows it says that there is more to read.
 fn read_all(
     dialect: Dialect,
     console: Console,
@@ -64,7 +70,10 @@ fn read_all(
     authentication: &mut [u8; 2048],
     signature: &mut [u8; 2048],
     output: &mut [u8],
-) -> Stopped {
+) -> Stopped
+    requires { ⌜ Holds (programOf dialect console (now line) (now authentication) (now signature)) (now line) (now authentication) (now signature) console ⌝ }
+    ensures { λ r. ⌜ SomeRead dialect (programOf dialect console (now (line .entry)) (now (authentication .entry)) (now (signature .entry))) (now (line .exit)) (now (authentication .exit)) (now (signature .exit)) r ⌝ }
+{
     let mut next = console;
     let mut left = u64::MAX;
     while 0 < left {
@@ -83,19 +92,29 @@ fn read_all(
         if !turn.more {
             return Stopped {
                 console: next,
-                ended: reading.got == 0,
+                last: reading,
             };
         }
         left -= 1;
     }
+    let last = Reading {
+        got: 1,
+        interrupted: false,
+        count: 1,
+        ended: false,
+        more: true,
+    };
     Stopped {
         console: next,
-        ended: false,
+        last: last,
     }
 }
 
-// Answers all of standard input, from the sample card and the two certificates on.
-fn answer_input(dialect: Dialect) {
+// Answers standard input, from the sample card on, with the authentication certificate first and the signature certificate second
+// (of each at most 2,048 bytes).
+pub fn run<'a>(dialect: Dialect, first: &'a [u8], second: &'a [u8]) -> Stopped
+    ensures { λ r. ⌜ Ran dialect (take 2048 (now (first .entry))) (take 2048 (now (second .entry))) r ⌝ }
+{
     let mut input = [0u8; 1006];
     let mut line = [0u8; 4097];
     let mut authentication = [0u8; 2048];
@@ -103,8 +122,8 @@ fn answer_input(dialect: Dialect) {
     let mut output = [0u8; 524288];
     let console = transcripts::begin(
         dialect,
-        &certificates::AUTHENTICATION,
-        &certificates::SIGNATURE,
+        first,
+        second,
         &mut line,
         &mut authentication,
         &mut signature,
@@ -118,22 +137,22 @@ fn answer_input(dialect: Dialect) {
         &mut signature,
         &mut output,
     );
-    if stopped.ended {
-        let last = transcripts::finish(
-            dialect,
-            stopped.console,
-            &mut line,
-            &mut authentication,
-            &mut signature,
-            &mut output,
-        );
-        streams::write_or_say(octets::part(&output, 0, last.written));
+    let reading = stopped.last;
+    if !reading.ended {
+        return stopped;
     }
-}
-
-// A program that takes no arguments. It has no result: all that it does is to read and to write (docs/DECISIONS.md).
-pub fn run(dialect: Dialect, usage: &[u8]) {
-    if streams::without_arguments_or_say(usage) {
-        answer_input(dialect);
+    let last = transcripts::finish(
+        dialect,
+        stopped.console,
+        &mut line,
+        &mut authentication,
+        &mut signature,
+        &mut output,
+    );
+    written(&output, last.written);
+    let console = last.console;
+    Stopped {
+        console: console,
+        last: reading,
     }
 }

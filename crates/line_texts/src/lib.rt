@@ -122,7 +122,7 @@ pub fn put_line(
 fn put_fault(fault: Fault, output: &mut [u8], at: usize) -> usize
     ensures { λ r. ⌜ Put (now (output .entry)) at (loadText (faultNumber fault) ++ lineFeed ∷ []) (now (output .exit)) r ⌝ }
 {
-    let n = image::fault_number(fault);
+    let n = faults::number(fault);
     let text = [b'F', b'0' + n / 10, b'0' + n % 10, b'\n'];
     put(output, at, &text)
 }

@@ -1,5 +1,6 @@
 // Reads a card image and prints what load makes of it: the fault's number, or the card, a line for each part. The functions that put a
 // part into the text answer where it ends.
+use libc::STDOUT_FILENO;
 use rules::Card;
 use rules::Code;
 use rules::Fault;
@@ -93,7 +94,7 @@ fn put_card(text: &mut [u8], card: Card) -> usize {
 }
 
 fn put_fault(text: &mut [u8], fault: Fault) -> usize {
-    put_number(text, 0, image::fault_number(fault))
+    put_number(text, 0, faults::number(fault))
 }
 
 // How much of the image has been read, whether to read on, and whether that is all of it.
@@ -111,7 +112,7 @@ fn read_more(image: &mut [u8], have: usize) -> ImageRead {
     ImageRead {
         len: len,
         more: reading.more & (len < image.len()),
-        ended: (reading.got == 0) | (len == image.len()),
+        ended: reading.ended | (len == image.len()),
     }
 }
 
@@ -144,7 +145,8 @@ fn put_loaded(text: &mut [u8], image: &[u8]) -> usize {
 }
 
 fn main() {
-    if !streams::without_arguments_or_say(
+    if !streams::without_arguments(
+        os::arg_count(),
         b"usage: load_image (it takes no arguments; an image is read from standard input)\n",
     ) {
         return;
@@ -155,6 +157,6 @@ fn main() {
         // The longest text has 2,314 characters.
         let mut text = [0u8; 4096];
         let end = put_loaded(&mut text, octets::part(&image, 0, read.len));
-        streams::write_or_say(octets::part(&text, 0, end));
+        streams::written_or_said(io::write_all(STDOUT_FILENO, octets::part(&text, 0, end)));
     }
 }

@@ -1,59 +1,83 @@
-// Standard input and output of the programs, and what they say on standard error, a line each. What the system reads and writes no
-// contract can say (docs/DECISIONS.md).
+// Standard input read, and what the programs say on standard error, a line each. No contract can say which bytes the system reads or
+// writes (docs/DECISIONS.md); what follows from its answers is stated.
 use libc::STDERR_FILENO;
 use libc::STDIN_FILENO;
-use libc::STDOUT_FILENO;
 ghost use mathlib.Core.Path.{_≡_};
+ghost use lib.Dec.{leb};
 ghost use lib.ListN.{length};
-ghost use Rattle.io.specs.Counts.{Counts, clamped};
+ghost use Rattle.libc.specs.Io.{Moved};
+ghost use Rattle.io.specs.Counts.{Counts};
+ghost use Rattle.streams.specs.Streams.{failed, atEnd, readsOn, readingFor};
 
-// One reading: what the system answered (0 at the end of the input, -1 where it failed), how many bytes came, and whether to read on.
+// One reading: what the system answered (the number of bytes that it brought, 0 at the end of the input, -1 where it failed), whether it
+// failed because a signal interrupted it, how many bytes count, whether the input has ended, and whether to read on.
 pub struct Reading {
     pub got: isize,
+    pub interrupted: bool,
     pub count: usize,
+    pub ended: bool,
     pub more: bool,
 }
 
-// Whether to read on, by what the system answered. A reading that a signal interrupted is made again; another that failed is said.
-fn read_on_or_say(got: isize) -> bool {
-    if 0 <= got {
-        return 0 < got;
-    }
-    if os::errno() == libc::EINTR {
-        return true;
-    }
-    os::fail(b"cannot read standard input");
-    false
+// Whether a reading failed, by what the system answered.
+fn failed(got: isize) -> bool
+    ensures { λ r. ⌜ r ≡ failed got ⌝ }
+{
+    got < 0
 }
 
-// Reads standard input once. The bytes that came are the first of the room.
+// Whether a reading met the end of the input.
+fn at_end(got: isize) -> bool
+    ensures { λ r. ⌜ r ≡ atEnd got ⌝ }
+{
+    got == 0
+}
+
+// Whether to read on after a reading.
+fn reads_on(got: isize, interrupted: bool) -> bool
+    ensures { λ r. ⌜ r ≡ readsOn got interrupted ⌝ }
+{
+    !at_end(got) & (!failed(got) | interrupted)
+}
+
+// Reads standard input once. The bytes that came are the first of the room. A failure is said, unless a signal interrupted the reading.
 pub fn read(room: &mut [u8]) -> Reading
-    ensures { λ r. ⌜ r .count ≡ clamped (r .got) (length (now (room .exit))) ⌝ }
+    ensures { λ r. ⌜ r ≡ readingFor (r .got) (r .interrupted) ⌝ }
+    ensures { λ r. ⌜ Moved (length (now (room .entry))) (r .got) ⌝ }
     ensures { λ r. ⌜ Counts (r .count) (now (room .exit)) ⌝ }
 {
     let got = libc::read(STDIN_FILENO, room);
-    let more = read_on_or_say(got);
+    let failed = failed(got);
+    let interrupted = failed & (os::errno() == libc::EINTR);
+    if failed & !interrupted {
+        os::fail(b"cannot read standard input");
+    }
     Reading {
         got: got,
+        interrupted: interrupted,
         count: io::count(got, room),
-        more: more,
+        ended: at_end(got),
+        more: reads_on(got, interrupted),
     }
 }
 
-// Writes to standard output, and says where that fails.
-pub fn write_or_say(text: &[u8]) -> bool {
-    if io::write_all(STDOUT_FILENO, text) {
-        return true;
+// Takes whether all was written to standard output, says it where not, and answers the same.
+pub fn written_or_said(written: bool) -> bool
+    ensures { λ r. ⌜ r ≡ written ⌝ }
+{
+    if !written {
+        os::fail(b"cannot write to standard output");
     }
-    os::fail(b"cannot write to standard output");
-    false
+    written
 }
 
-// Whether a program that takes no arguments was given none; where it was given any, its use is said.
-pub fn without_arguments_or_say(usage: &[u8]) -> bool {
-    if os::arg_count() <= 1 {
-        return true;
+// Whether a program that takes no arguments was given none beside its name; where it was given any, its use is said.
+pub fn without_arguments(count: usize, usage: &[u8]) -> bool
+    ensures { λ r. ⌜ r ≡ leb count 1 ⌝ }
+{
+    if 1 < count {
+        io::write_all(STDERR_FILENO, usage);
+        return false;
     }
-    io::write_all(STDERR_FILENO, usage);
-    false
+    true
 }

@@ -11,26 +11,16 @@ part-requires c κs = search needs
 read-requires-2 : tie.Need-read-requires-2
 read-requires-2 c κs = search needs
 
-part-requires-2 : tie.Need-part-requires-2
-part-requires-2 c κs = search needs
-
-write-or-say-requires : tie.Need-write-or-say-requires
-write-or-say-requires c κs = search needs
+written-requires : tie.Need-written-requires
+written-requires c κs = search needs
 
 same-length : tie.Need-same-length
 same-length c = search needs
 
 returns : tie.Need-returns
-returns c = (c .before .before .before .before .before .before .before .before .before .before .before .before .before .before .read .ensures .0, rw (c .before .before .before .before .before .before .before .before .before .before .before .part .ensures) at (c .before .before .before .before .before .before .read2 .ensures))
+returns c = (c .before .before .before .before .before .before .before .before .before .before .before .before .before .read .ensures .0, rw (c .before .before .before .before .before .before .before .before .before .before .part .ensures) at (c .before .before .before .before .before .read2 .ensures))
 
 pub read-some-spec : {M : Type 1} → statement M
 read-some-spec =
     tie.close
-    (tie.spec
-    read-requires
-    part-requires
-    read-requires-2
-    part-requires-2
-    write-or-say-requires
-    same-length
-    returns)
+    (tie.spec read-requires part-requires read-requires-2 written-requires same-length returns)

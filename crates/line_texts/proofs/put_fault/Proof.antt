@@ -3,8 +3,8 @@ use borrow.Author.Needs.{needs}
 use Rattle.line_texts.proofs.put_fault.Statement.{statement}
 use Rattle.line_texts.proofs.put_fault.Tie as tie
 
-fault-number-requires : tie.Need-fault-number-requires
-fault-number-requires c κs = search needs
+number-requires : tie.Need-number-requires
+number-requires c κs = search needs
 
 add-t7 : tie.Need-add-t7
 add-t7 c = search needs
@@ -22,13 +22,13 @@ same-length : tie.Need-same-length
 same-length c = search needs
 
 returns : tie.Need-returns
-returns c = put-same (simp (fault-text (c .before .before .before .before .before .before .before .args .fault), c .before .before .before .before .before .fault-number .ensures)) (c .before .before .put .ensures)
+returns c = put-same (simp (fault-text (c .before .before .before .before .before .before .before .args .fault), c .before .before .before .before .before .number .ensures)) (c .before .before .put .ensures)
 
 pub put-fault-spec : {M : Type 1} → statement M
 put-fault-spec =
     tie.close
     (tie.spec
-    fault-number-requires
+    number-requires
     add-t7
     add-t9
     slice-aggregate-put
