@@ -97,7 +97,7 @@ fn put_fault(text: &mut [u8], fault: Fault) -> usize {
     put_number(text, 0, faults::number(fault))
 }
 
-// How much of the image has been read, whether to read on, and whether that is all of it.
+// How much of the image has been read, whether to read on, and whether that is all of it, or enough to refuse it.
 pub struct ImageRead {
     pub len: usize,
     pub more: bool,
