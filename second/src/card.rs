@@ -147,6 +147,13 @@ fn execute(card: &mut CardState, request: Request, certificates: Certificates) -
             let part = read_binary(card, certificates, offset, le)?;
             Ok(Reply::Data(part.to_vec(), status::OK))
         }
+        // Wish 1: "9000 if verified, 6983 if no tries are left, else 63Cx, and no code
+        // changes", and "6983 stays the first of the command's own rules".
+        Request::AskCode { code } => match card.codes[code] {
+            Code { tries: 0, .. } => Err(status::BLOCKED),
+            Code { verified: true, .. } => done(),
+            Code { tries, .. } => Err(status::WRONG_CODE | tries as u16),
+        },
         Request::Verify { code, value } => {
             let right = value == card.codes[code].value.get();
             present(&mut card.codes[code], right)?;

@@ -133,13 +133,17 @@ impl<S: Played> Generator<S> {
 
     /// A single line that may drop a held answer or a chain, or do nothing.
     pub(crate) fn single_interruption(&mut self) {
-        match self.random.below(7) {
+        match self.random.below(8) {
             0 => self.line(b"P".to_vec()),
             1 => self.malformed(),
             2 => self.call(b'D', &[]),
             3 => self.call(b'C', &[]),
             4 => self.call(b'C', &[0x00, 0xA4, 0x00, 0x0C]),
             5 => self.call(b'C', &[0x00, 0xC0, 0x00, 0x00, 0x01]),
+            6 => {
+                let code = self.any_code();
+                self.ask_about(code);
+            }
             _ => self.call(b'C', &[0x00, 0x22, 0xF3, 0x02]),
         }
     }
@@ -199,10 +203,34 @@ impl<S: Played> Generator<S> {
         self.random.pick(&[PUK, PIN1, PIN1, PIN2, PIN2])
     }
 
+    /// Sometimes with queries before it, and one of the same code after it.
     pub(crate) fn verify(&mut self, code: usize, right: usize) {
+        if self.random.percent(8) {
+            self.ask();
+        }
         let value = self.value(code, right);
         let le = self.random.pick(&[None, None, None, Some(0)]);
         self.send(0x00, 0x20, 0x00, code as u8, &value, le);
+        if self.random.percent(20) {
+            self.ask_about(code);
+        }
+    }
+
+    /// VERIFY without data, for a code or for each of them.
+    pub(crate) fn ask(&mut self) {
+        if self.random.percent(40) {
+            for code in [PUK, PIN1, PIN2] {
+                self.ask_about(code);
+            }
+        } else {
+            let code = self.any_code();
+            self.ask_about(code);
+        }
+    }
+
+    pub(crate) fn ask_about(&mut self, code: usize) {
+        let le = self.random.pick(&[None, None, Some(0), Some(2)]);
+        self.send(0x00, 0x20, 0x00, code as u8, &[], le);
     }
 
     pub(crate) fn change(&mut self) {
@@ -354,6 +382,9 @@ impl<S: Played> Generator<S> {
         self.send(0x00, 0x2A, 0x9E, 0x9A, &digest, le);
         if self.session.card().job.is_none() || self.random.percent(85) {
             self.deliver();
+        }
+        if self.random.percent(25) {
+            self.ask_about(PIN2);
         }
         if self.random.percent(30) {
             self.send(0x00, 0x2A, 0x9E, 0x9A, &digest, le); // PIN2 is closed now

@@ -59,7 +59,7 @@ impl Played for PlayedStandIn {
             3 | 4 => too_long(r),
             5 => {
                 let n = r.below(40);
-                r.bytes(n).into_iter().filter(|byte| *byte != b'\n').collect()
+                r.bytes(n).into_iter().filter(|byte| !b"\nL".contains(byte)).collect() // L alone would load no card
             }
             6 => {
                 let letter = r.pick(b"EFGHIJKMNOQRTUVWXYZlascdbp0123456789?.- ");
@@ -71,11 +71,12 @@ impl Played for PlayedStandIn {
     }
 
     fn interruption(generator: &mut Generator<Self>) {
-        match generator.random.below(10) {
+        match generator.random.below(11) {
             0..=3 => generator.single_interruption(),
             4 | 5 => generator.small_buffer(),
             6 | 7 => generator.bad_certificate(),
             8 => generator.lend_good(),
+            9 if generator.near_its_end() => generator.good_card(),
             _ => generator.large_buffer(),
         }
     }
@@ -85,7 +86,7 @@ impl Played for PlayedStandIn {
             0 => Self::interruption(generator),
             1 | 2 => generator.plain_command(),
             3 => generator.step(),
-            4 | 5 if generator.session.session_ends < generator.made + 10 => generator.next_session(),
+            4 | 5 if generator.near_its_end() => generator.next_session(),
             _ => {}
         }
     }
@@ -117,6 +118,10 @@ impl Played for PlayedStandIn {
 }
 
 impl Generator<PlayedStandIn> {
+    fn near_its_end(&self) -> bool {
+        self.session.session_ends < self.made + 10
+    }
+
     /// A card that load refuses, or a session on a good one.
     fn next_session(&mut self) {
         self.session.spares_puk = false;
@@ -520,8 +525,12 @@ impl Generator<PlayedStandIn> {
         let code = self.any_code();
         let mut right = self.session.card().codes[code].value.get().to_vec();
         right.insert(0, right.len() as u8);
-        let verify = [&[0x00, 0x20, 0x00, code as u8][..], &right].concat();
+        let query = vec![0x00, 0x20, 0x00, code as u8];
+        let query_with_le = [&query[..], &[0x00]].concat();
+        let verify = [&query[..], &right].concat();
         let commands = [
+            query,
+            query_with_le,
             verify,
             vec![0x00, 0x20, 0x00, 0x01, 0x04, 0x39, 0x39, 0x39, 0x39],
             vec![0x00, 0xA4, 0x00, 0x0C],

@@ -9,15 +9,33 @@ use crate::CardState;
 #[derive(Clone)]
 pub struct PlayedTranscript {
     transcript: Transcript,
-    /// Before this line PUK is not to be blocked, because nothing unblocks it.
-    spares_puk_before: usize,
+    /// Where the last tenth of the lines begins.
+    last_tenth: usize,
+    /// Whether PUK is not to be blocked before the last tenth, because nothing unblocks it.
+    spares_puk: bool,
 }
 
 impl Generator<PlayedTranscript> {
     /// Seeds 3, 7, 11, ... may block PUK at any time; others only in the last tenth.
     pub fn new(seed: u64, total: usize) -> Self {
-        let spares_puk_before = if seed % 4 == 3 { 0 } else { total - total / 10 };
-        Self::on(PlayedTranscript { transcript: Transcript::sample(), spares_puk_before }, seed)
+        let last_tenth = total - total / 10;
+        Self::on(PlayedTranscript { transcript: Transcript::sample(), last_tenth, spares_puk: seed % 4 != 3 }, seed)
+    }
+
+    fn in_last_tenth(&self) -> bool {
+        self.made >= self.session.last_tenth
+    }
+
+    /// Wrong values of PUK down to its last try, in the last tenth until it is blocked, with a
+    /// query at each number of tries; then the right value.
+    fn lower_puk_and_ask(&mut self) {
+        let left = if self.in_last_tenth() { 0 } else { 1 };
+        self.ask_about(PUK);
+        for _ in left..self.session.card().codes[PUK].tries {
+            self.verify(PUK, 0);
+            self.ask_about(PUK);
+        }
+        self.verify(PUK, 100);
     }
 }
 
@@ -31,7 +49,7 @@ impl Played for PlayedTranscript {
     }
 
     fn holds_back(generator: &Generator<Self>, after: &Self) -> bool {
-        generator.made < after.spares_puk_before && after.card().codes[PUK].tries == 0
+        after.spares_puk && !generator.in_last_tenth() && after.card().codes[PUK].tries == 0
     }
 
     fn interruption(generator: &mut Generator<Self>) {
@@ -96,7 +114,8 @@ impl Played for PlayedTranscript {
             19..=26 => generator.browse(),
             27..=39 => Self::read(generator),
             40..=43 => generator.get_responses(),
-            44..=51 => {
+            44 | 45 => generator.lower_puk_and_ask(),
+            46..=51 => {
                 let code = generator.any_code();
                 generator.verify(code, 70);
             }

@@ -1,4 +1,4 @@
-//! An independent second software EstEID card, written from document 01 alone.
+//! An independent second software EstEID card, written from documents 01 and 02 alone.
 
 pub mod answers;
 pub mod apdu;

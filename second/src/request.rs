@@ -13,6 +13,7 @@ pub enum Request<'a> {
     ReadRecord { number: u8, le: Option<usize> },
     ReadBinary { offset: usize, le: usize },
     GetResponse { le: usize },
+    AskCode { code: usize },
     Verify { code: usize, value: &'a [u8] },
     Change { code: usize, data: &'a [u8] },
     UnblockByMark { pin: usize },
@@ -58,7 +59,8 @@ fn judge_p1_p2_and_lengths(apdu: Apdu<'_>) -> Result<Request<'_>, u16> {
             no_data(data)?;
             Ok(Request::GetResponse { le: needed(le)? })
         }
-        (0x20, 0x00, 0..=2) => Ok(Request::Verify { code: p2 as usize, value: some_data(data)? }),
+        (0x20, 0x00, 0..=2) if data.is_empty() => Ok(Request::AskCode { code: p2 as usize }),
+        (0x20, 0x00, 0..=2) => Ok(Request::Verify { code: p2 as usize, value: data }),
         (0x24, 0x00, 0..=2) => Ok(Request::Change { code: p2 as usize, data: some_data(data)? }),
         (0x2C, 0x03, 1 | 2) => no_data(data).map(|_| Request::UnblockByMark { pin: p2 as usize }),
         (0x2C, 0x00, 1 | 2) => Ok(Request::UnblockByPuk { pin: p2 as usize, data: some_data(data)? }),

@@ -1,17 +1,24 @@
-//! Over a few fixed seeds the generator reaches every answer a transcript can give.
+//! Over a few fixed seeds the generator reaches every answer a transcript can give, and asks about
+//! each code in each of its states.
 
+mod queries;
+
+use queries::{queries_of_each_code, query, STATES};
 use second::generate::{Generator, Random};
 use second::lines::LineProgram;
 use second::transcript::Transcript;
 use second::{images, load, pad_lines};
 use std::collections::BTreeSet;
 
+const SEEDS: u64 = 4;
+const LINES: usize = 4000;
+
 #[test]
 fn every_answer_occurs() {
     let mut seen = BTreeSet::new();
-    for seed in 1..=4 {
+    for seed in 1..=SEEDS {
         let mut session = Transcript::sample();
-        for line in Generator::new(seed, 4000).take(4000) {
+        for line in Generator::new(seed, LINES).take(LINES) {
             assert!(!line.contains(&b'\n'));
             let output = session.line(&line);
             assert!(session.card().is_good());
@@ -26,10 +33,25 @@ fn every_answer_occurs() {
             seen.insert(word);
         }
     }
-    let named = "6700 6E00 6D00 6884 6A86 6A82 6986 6981 6A83 6B00 6985 6983 63C0 63C1 63C2 6A80 6982 6A88 \
+    let named = "6700 6E00 6D00 6884 6A86 6A82 6986 6981 6A83 6B00 6985 6983 63C0 63C1 63C2 63C3 6A80 6982 6A88 \
                  6400 61xx 6100 9000 H4 H5 J1 J2 J3 P ?";
     for word in named.split_whitespace() {
         assert!(seen.contains(word), "{word} in {seen:?}");
+    }
+}
+
+#[test]
+fn each_code_is_asked_about_in_each_state() {
+    let mut seen = BTreeSet::new();
+    for seed in 1..=SEEDS {
+        let mut session = Transcript::sample();
+        for line in Generator::new(seed, LINES).take(LINES) {
+            let answer = session.line(&line);
+            seen.extend(query(&line, &answer));
+        }
+    }
+    for wanted in queries_of_each_code(&STATES) {
+        assert!(seen.contains(&wanted), "{wanted} in {seen:?}");
     }
 }
 

@@ -1,6 +1,10 @@
 //! Over a few fixed seeds the generator of stand-in lines reaches every answer, every shape of
-//! card, every length that matters, and refusals in the midst of everything.
+//! card, every length that matters, queries of each code in each of its states, and refusals in the
+//! midst of everything.
 
+mod queries;
+
+use queries::{queries_of_each_code, query, STATES};
 use second::answers::{reached, wanted};
 use second::generate::{Generator, Random};
 use second::images::{cut_short, with_fault, Fault, Parts};
@@ -11,7 +15,7 @@ use second::{load, sample, CardState};
 use std::collections::{BTreeMap, BTreeSet};
 
 const SEEDS: u64 = 8;
-const LINES: usize = 4000;
+const LINES: usize = 10_000;
 
 struct Step {
     line: Vec<u8>,
@@ -52,6 +56,12 @@ fn every_answer_occurs() {
     let strange: Vec<&String> = counts.keys().filter(|class| !wanted().contains(class)).collect();
     assert!(strange.is_empty(), "{strange:?}");
     check_all(counts, wanted());
+}
+
+#[test]
+fn each_code_is_asked_about_in_each_state_and_at_the_edge() {
+    let asked = |step: &Step| query(&step.line, &step.answer).into_iter().collect();
+    check_all(count(asked), queries_of_each_code(&[&STATES[..], &["H1", "H2", "H3", "H4"]].concat()));
 }
 
 #[test]

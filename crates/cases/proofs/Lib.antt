@@ -13,4 +13,5 @@ pub mod StateCases
 pub mod ImageCases
 pub mod NumberCases
 pub mod CountCases
+pub mod QueryCases
 pub mod WaitingCases

@@ -11,8 +11,8 @@ use Rattle.rules.specs.State.{goodEnvironment, goodJob, goodSession, good}
 use Rattle.rules.specs.Apdu.{parse}
 use Rattle.rules.specs.Answers.{moreBytes, give}
 use Rattle.rules.specs.FileCommands.{select, readRecord, readBinary, getResponse}
-use Rattle.rules.specs.CodeCommands.{verdict, judged, verify, replaced, change, unblockByVerifiedPuk}
-use Rattle.rules.specs.CodeCommands.{unblockByPresentedPuk, resetRetry}
+use Rattle.rules.specs.CodeCommands.{verdict, judged, queried, verify, replaced, change}
+use Rattle.rules.specs.CodeCommands.{unblockByVerifiedPuk, unblockByPresentedPuk, resetRetry}
 use Rattle.rules.specs.Digests.{prefixed, sha2, isDigest}
 use Rattle.rules.specs.KeyCommands.{setEnvironment, kindChosen, chooseKey, internalAuthenticate, sign, decipher}
 use Rattle.rules.specs.Judgement.{instruction, parameters, lengths, ownRules, knownInstruction, namedIn, judgeNamed}
@@ -22,11 +22,11 @@ use Rattle.rules.specs.Edge.{responseIn, written, command, delivery, powerReset
 use Rattle.rules.specs.Image.{byteIf, bytesIf, readCode, codeSection, readKey, readKeys, keySection, referenceSection}
 use Rattle.rules.specs.Image.{readPersonal, readRecords, personalSection, end, readCard, zeroCard, loaded, load}
 use Rattle.rules.specs.Counting.{step, returnedStatus, returnedKind, formSends, sentBy, readOff, wrongStatus}
-use Rattle.rules.specs.Counting.{okStatus, verifies, changes, presentsPuk, unblocks, presents}
+use Rattle.rules.specs.Counting.{okStatus, queries, verifies, changes, presentsPuk, unblocks, presents}
 use Rattle.rules.specs.Sample.{sampleCard, sampleImage}
 use Rattle.rules.specs.Cases.{onCard}
 use Rattle.cases.specs.SecondCard.{secondCard, secondImage}
 
 unfoldable pub rules : Unit {0}
-unfolding blank filled goodRoom padded cannotPad pad beforeZero enciphered strip least allowed ofClass present activeKey keyFor newSession filesIn certificateOf pukRecord pinRecord counterRecord personalRecord recordCount recordOf goodCode goodCodes goodReferences goodRecords goodProfile goodSelection goodEnvironment goodJob goodSession good parse moreBytes give select readRecord readBinary getResponse verdict judged verify replaced change unblockByVerifiedPuk unblockByPresentedPuk resetRetry prefixed sha2 isDigest setEnvironment kindChosen chooseKey internalAuthenticate sign decipher instruction parameters lengths ownRules knownInstruction namedIn judgeNamed judgeHeader judgeForm judge deliver responseIn written command delivery powerReset byteIf bytesIf readCode codeSection readKey readKeys keySection referenceSection readPersonal readRecords personalSection end readCard zeroCard loaded load step returnedStatus returnedKind formSends sentBy readOff wrongStatus okStatus verifies changes presentsPuk unblocks presents sampleCard sampleImage onCard secondCard secondImage
+unfolding blank filled goodRoom padded cannotPad pad beforeZero enciphered strip least allowed ofClass present activeKey keyFor newSession filesIn certificateOf pukRecord pinRecord counterRecord personalRecord recordCount recordOf goodCode goodCodes goodReferences goodRecords goodProfile goodSelection goodEnvironment goodJob goodSession good parse moreBytes give select readRecord readBinary getResponse verdict judged queried verify replaced change unblockByVerifiedPuk unblockByPresentedPuk resetRetry prefixed sha2 isDigest setEnvironment kindChosen chooseKey internalAuthenticate sign decipher instruction parameters lengths ownRules knownInstruction namedIn judgeNamed judgeHeader judgeForm judge deliver responseIn written command delivery powerReset byteIf bytesIf readCode codeSection readKey readKeys keySection referenceSection readPersonal readRecords personalSection end readCard zeroCard loaded load step returnedStatus returnedKind formSends sentBy readOff wrongStatus okStatus queries verifies changes presentsPuk unblocks presents sampleCard sampleImage onCard secondCard secondImage
 rules = tt

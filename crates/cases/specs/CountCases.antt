@@ -61,14 +61,15 @@ pub record Tally : Type 0 where
 
 unfoldable pub tallies : List Tally
 tallies =
-    -- a wrong answer is 63Cx to a VERIFY or a CHANGE, for the code P2 names
+    -- a wrong answer is 63Cx to a VERIFY with data or a CHANGE, for the code P2 names
     record {
       exchanges =
           answered (verifying PUK) 0x63 0xC2
           ∷ answered (changing PIN1) 0x63 0xC0
           ∷ answered (verifying PIN2) 0x63 0xCF
+          ∷ answered (sending 0x20 0x00 PIN2 (fives 1)) 0x63 0xC1
           ∷ [];
-      are = 1 ∷ 1 ∷ 1 ∷ 0 ∷ 0 ∷ 0 ∷ 0 ∷ 0 ∷ 0 ∷ 0 ∷ [];
+      are = 1 ∷ 1 ∷ 2 ∷ 0 ∷ 0 ∷ 0 ∷ 0 ∷ 0 ∷ 0 ∷ 0 ∷ [];
     }
     -- or to a 2C with P1 00, for PUK
     ∷ record {

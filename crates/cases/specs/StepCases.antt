@@ -193,9 +193,9 @@ lengthRanges =
     bodies 0xA4 0x00 0x0C is (0 ∷ [])
     ∷ bodies 0xA4 0x01 0x0C is (2 ∷ [])
     ∷ bodies 0xA4 0x02 0x0C is (2 ∷ [])
-    -- 6. B2 no data; 20 and 24 data required
+    -- 6. B2 no data; 20 with data or without; 24 data required
     ∷ bodies 0xB2 0x01 0x04 is (0 ∷ [])
-    ∷ bodies 0x20 0x00 0x01 is oneOrMore
+    ∷ bodies 0x20 0x00 0x01 is (0 ∷ oneOrMore)
     ∷ bodies 0x24 0x00 0x01 is oneOrMore
     -- 6. 2C: P1 03 no data, P1 00 data required
     ∷ bodies 0x2C 0x03 0x01 is (0 ∷ [])

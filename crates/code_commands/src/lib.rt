@@ -8,8 +8,8 @@ ghost use Prim.Native.Nat.{_+_, _-_};
 ghost use lib.ListN.{take, drop};
 ghost use Rattle.rules.specs.Codes.{marked};
 ghost use Rattle.rules.specs.Answers.{codeStatus};
-ghost use Rattle.rules.specs.CodeCommands.{verdict, judged, verify, replaced, change};
-ghost use Rattle.rules.specs.CodeCommands.{unblockByVerifiedPuk, unblockByPresentedPuk, resetRetry};
+ghost use Rattle.rules.specs.CodeCommands.{verdict, judged, queried, verify, replaced};
+ghost use Rattle.rules.specs.CodeCommands.{change, unblockByVerifiedPuk, unblockByPresentedPuk, resetRetry};
 
 // A status word alone.
 fn code_status(codes: [Code; 3], sw: u16) -> CodeStep
@@ -31,7 +31,7 @@ fn marked(code: Code, tries: u8, verified: bool) -> Code
     next
 }
 
-// One try less, and 63Cx with the tries left.
+// One try less; 63Cx with the tries left.
 fn one_less(tries: u8) -> u8
     ensures { λ r. ⌜ r ≡ tries - 1 ⌝ }
 {
@@ -84,11 +84,28 @@ fn judged(codes: [Code; 3], number: usize, found: Verdict) -> CodeStep
     }
 }
 
-// 20 VERIFY.
+// 20 VERIFY without data asks whether a code is open. No code changes.
+fn queried(codes: [Code; 3], number: usize) -> CodeStep
+    ensures { λ r. ⌜ r ≡ queried codes number ⌝ }
+{
+    let code = card_codes::code_of(codes, number);
+    if code.tries == 0 {
+        return code_status(codes, 0x6983);
+    }
+    if code.verified {
+        return code_status(codes, 0x9000);
+    }
+    code_status(codes, wrong_status(code.tries))
+}
+
+// 20 VERIFY: without data it asks, with data the value is judged.
 pub fn verify(codes: [Code; 3], h: Header, presented: &[u8]) -> CodeStep
     ensures { λ r. ⌜ r ≡ verify codes h (now (presented .entry)) ⌝ }
 {
     let number = numbers::wide(h.p2);
+    if h.lc == 0 {
+        return queried(codes, number);
+    }
     let code = card_codes::code_of(codes, number);
     judged(codes, number, verdict(code, presented))
 }

@@ -145,7 +145,7 @@ pub fn good_lengths(command: Command, h: Header) -> bool
         Command::ReadRecord => no_data,
         Command::ReadBinary => no_data & has_le,
         Command::GetResponse => no_data & has_le,
-        Command::Verify => has_data,
+        Command::Verify => true,
         Command::Change => has_data,
         Command::ResetRetry => pick(h.p1 == 0x03, no_data, has_data),
         Command::SetEnvironment => no_data,

@@ -1,5 +1,5 @@
 -- Laws of tests: a choice by its test, conjunctions taken apart, equal or not.
-use mathlib.Core.Path.{_≡_, refl}
+use mathlib.Core.Path.{_≡_, refl, sym, _∙_}
 use mathlib.Core.Logic.{_≢_}
 use mathlib.Core.Bool.{Bool, true, false, cond, _&&_, _||_, false≢true}
 use mathlib.Core.List.{List, [], _∷_}
@@ -31,6 +31,10 @@ and-left false t e = e
 pub and-right : (s t : Bool) → (s && t) ≡ true → t ≡ true
 and-right true t e = e
 and-right false t e = absurd (false≢true e)
+
+-- A test that is false is not true.
+pub never : {A : Type 0} {t : Bool} → t ≡ false → t ≡ true → A
+never f e = absurd (false≢true (sym f ∙ e))
 
 -- One of two tests.
 pub or-cases : (P : Type 0) (s t : Bool) → (s || t) ≡ true → (s ≡ true → P) → (t ≡ true → P) → P

@@ -15,9 +15,9 @@ use Rattle.rules.specs.declared.Verdict.the-variants.{Right, Wrong, NoTr
 use Rattle.rules.specs.Codes.{PUK, fullTries, allowed, marked, zeroCode, codeOf, withCode, closed}
 use Rattle.rules.specs.State.{goodCode, goodCodes}
 use Rattle.rules.specs.Answers.{codeStatus}
-use Rattle.rules.specs.CodeCommands.{swNotAllowed, swHasTries, verdict, judged, verify, replaced, change}
-use Rattle.rules.specs.CodeCommands.{unblockByPresentedPuk, resetRetry}
-use Rattle.rules.proofs.Walks.{replaced-walk, verifiedPuk-walk, resetRetry-walk}
+use Rattle.rules.specs.CodeCommands.{swNotAllowed, swHasTries, verdict, judged, queried, verify, replaced}
+use Rattle.rules.specs.CodeCommands.{change, unblockByPresentedPuk, resetRetry}
+use Rattle.rules.proofs.Walks.{queried-walk, verify-walk, replaced-walk, verifiedPuk-walk, resetRetry-walk}
 use Rattle.rules.proofs.Parts.{code-tries, marked-good, stored-good, good-code, codes-good, code-place}
 use Rattle.rules.proofs.KeepingAnswers.{KeepsCodes}
 
@@ -54,9 +54,13 @@ module _ (codes : List Code) (g : goodCodes codes ≡ true) where
       record { codes = unmarked-good k b (codeOf codes k .tries - 1) (omega arith); word = omega arith }
   judged-keeps k b NoTries = refused-keeps 0x6983 g refl
 
+  queried-keeps : (k : ℕ) → k < 3 → KeepsCodes (queried codes k)
+  queried-keeps k b =
+      let few : codeOf codes k .tries ≤ 3 = code-tries k (codeOf codes k) (good-code codes g k b) in
+      queried-walk KeepsCodes codes k (λ _. refused-keeps 0x6983 g refl) (λ _ _. done-keeps g) (λ _ _. record { codes = g; word = omega arith })
+
   pub verify-keeps : (h : Header) (d : Bytes) → h .p2 < 3 → KeepsCodes (verify codes h d)
-  unfolding verify
-  verify-keeps h d b = judged-keeps (h .p2) b _
+  verify-keeps h d b = verify-walk KeepsCodes codes h d (λ _. queried-keeps (h .p2) b) (λ _. judged-keeps (h .p2) b _)
 
   replaced-keeps : (k : ℕ) → k < 3 → (j : ℕ) (new : Bytes) (stored : List Code) (presented : Bytes)
       → (allowed j new ≡ true → goodCodes stored ≡ true)

@@ -13,6 +13,7 @@ pub mod Keeping
 pub mod Demand1
 pub mod Loading
 pub mod GoodStates
+pub mod Queries
 pub mod Sheet
 pub mod SequenceBound
 pub mod SequenceMet

@@ -15,7 +15,7 @@ use Rattle.rules.specs.Counting.{byCommand, okStatus, wrongAnswer, resto
 use Rattle.rules.specs.Counting.{handsSignature, one, wrongAnswers, restorations, unblockings, signatures}
 use Rattle.rules.specs.Counting.{pin2Presentations}
 use Rattle.rules.specs.CodeSheet.{opens, closes}
-use Rattle.rules.proofs.Sheet.{code-sheet}
+use Rattle.rules.proofs.Sheet.{code-after}
 
 -- Tries before and after a call that may be a wrong answer, a restoration, an unblocking.
 tries-step : (w r u : Bool) (before after : ℕ) → after ≡ cond w (before - 1) (cond (r || u) 3 before) → (w ≡ true → 1 ≤ before) → (r ≡ true → 1 ≤ before)
@@ -56,7 +56,7 @@ module _ (e : Exchange) (s : handsSignature e ≡ true) where
 module _ (k : ℕ) (h3 : k < 3) where
   tries-moved : (c : Card) (x : Call) → one (wrongAnswer k (exchange c x)) + codeOf (next c x .codes) k .tries
       ≤ codeOf (c .codes) k .tries + 2 * one (restoration k (exchange c x)) + 3 * one (unblocking k (exchange c x))
-  tries-moved c x = let s = code-sheet k h3 c x in tries-step _ _ _ _ _ (s .tries) (s .hadTries) (s .restored)
+  tries-moved c x = let s = code-after k h3 c x in tries-step _ _ _ _ _ (s .tries) (s .hadTries) (s .restored)
 
   tries-run : (c : Card) (xs : List Call) → wrongAnswers k (trace c xs) + codeOf (after c xs .codes) k .tries
       ≤ codeOf (c .codes) k .tries + 2 * restorations k (trace c xs) + 3 * unblockings k (trace c xs)
@@ -71,7 +71,7 @@ mark-moved : (c : Card) (x : Call) → one (handsSignature (exchange c x)) + one
     ≤ one (codeOf (c .codes) PIN2 .verified) + one (rightVerify PIN2 (exchange c x))
 unfolding opens
 mark-moved c x =
-    let s = code-sheet PIN2 (omega arith) c x in
+    let s = code-after PIN2 (omega arith) c x in
     let e : Exchange = exchange c x in
     mark-step (handsSignature e) (opens PIN2 e) (closes PIN2 e) (codeOf (c .codes) PIN2 .verified) (codeOf (next c x .codes) PIN2 .verified) (s .verified) (s .signed) (signature-closes e) (signature-opens e)
 

@@ -140,7 +140,7 @@ module _ (j : ℕ) (d : Bytes) (some : 1 ≤ length d) where
   verify-judged : (c : Card) → j < 3 → judgeHeader c (verifyHeader j d) (dataOf (verifyApdu j d) dataStart (verifyHeader j d)) certificate certificate
       ≡ inCodes (dropBoth (c .session)) (judged (c .codes) j (verdict (codeOf (c .codes) j) d))
   unfolding judgeHeader knownInstruction instruction namedIn parameters judgeNamed lengths ownRules verify
-  verify-judged c h = simp (le-leb j 2 (omega arith), le-leb 1 (length d) some, take-length d)
+  verify-judged c h = simp (le-leb j 2 (omega arith), ne-eqb (length d) 0 (omega arith), take-length d)
 
   verify-bytes : j < 3 → length d ≤ 12 → allBytes d ≡ true → allBytes (verifyApdu j d) ≡ true
   verify-bytes h short e = simp (lt-ltb j 256 (omega arith), lt-ltb (length d) 256 (omega arith), e)

@@ -1,7 +1,7 @@
 -- What opens and closes a code, and what moves its retry counter: the sheet holds of every call on every card.
 use mathlib.Core.Path.{_≡_, refl, sym, ap, _∙_}
 use mathlib.Core.Logic.{_≢_}
-use mathlib.Core.Bool.{Bool, true, false, not, cond, _&&_, _||_, or-false, and-false, and-true, false≢true}
+use mathlib.Core.Bool.{Bool, true, false, not, cond, _&&_, _||_, or-false, and-false, and-true}
 use mathlib.Core.List.{List, []}
 use Prim.Native.Nat.{ℕ, _+_, _-_, _≤_, _<_}
 use native.Mathlib.Omega.{arith}
@@ -9,7 +9,7 @@ use lib.Dec.{eqb, leb, ltb}
 use lib.ListN.{length, drop, length-set}
 use borrow.Author.Tests.{eqb-true, eq-eqb, ne-eqb, le-leb, lt-leb, not-false}
 use Rattle.octets.specs.Octets.{Bytes, same}
-use Rattle.octets.proofs.Tests.{split, either, and-left, below-three}
+use Rattle.octets.proofs.Tests.{split, either, and-left, never, below-three}
 use Rattle.octets.proofs.Strings.{take-filled, same-equal}
 use Rattle.rules.specs.declared.Card.{Card}
 use Rattle.rules.specs.declared.Code.{Code}
@@ -31,8 +31,8 @@ use Rattle.rules.specs.Answers.{Answer, Step, SessionStep, response, job
 use Rattle.rules.specs.Answers.{inCodes, give}
 use Rattle.rules.specs.FileCommands.{select, readRecord, readBinary, getResponse}
 use Rattle.rules.specs.KeyCommands.{setEnvironment, chooseKey, internalAuthenticate, sign, decipher}
-use Rattle.rules.specs.CodeCommands.{swNotAllowed, swHasTries, judged, verify, newValue, change, unblockByVerifiedPuk}
-use Rattle.rules.specs.CodeCommands.{unblockByPresentedPuk, resetRetry}
+use Rattle.rules.specs.CodeCommands.{swNotAllowed, swHasTries, verdict, judged, queried, verify, newValue, change}
+use Rattle.rules.specs.CodeCommands.{unblockByVerifiedPuk, unblockByPresentedPuk, resetRetry}
 use Rattle.rules.specs.Judgement.{commands, instruction, parameters, hasData, lengths, ownRules, refusal}
 use Rattle.rules.specs.Judgement.{knownClass, knownInstruction, badChaining, judgeNamed, judgeHeader, judgeForm}
 use Rattle.rules.specs.Judgement.{judge}
@@ -51,9 +51,10 @@ use Rattle.rules.proofs.Parts.{good-code, good-codes, code-length, code
 use Rattle.rules.proofs.Parts.{code-same, code-other}
 use Rattle.rules.proofs.Walks.{give-walk, select-walk, readRecord-walk, readBinary-walk, getResponse-walk}
 use Rattle.rules.proofs.Walks.{setEnvironment-walk, chooseKey-walk, authenticate-walk, sign-walk, decipher-walk}
-use Rattle.rules.proofs.Walks.{verdict-walk, replaced-walk, verifiedPuk-walk, resetRetry-walk}
+use Rattle.rules.proofs.Walks.{verdict-walk, queried-walk, verify-walk, replaced-walk, verifiedPuk-walk, resetRetry-walk}
 use Rattle.rules.proofs.Forms.{refusal-6700}
 use Rattle.rules.proofs.Keeping.{Found, is, nothing, found, verify-code, change-code, reset-code}
+use Rattle.rules.proofs.Queries.{asked-about}
 
 -- An exchange that neither opens, closes, judges, stores nor unblocks code k, and hands out no signature.
 record Silent (k : ℕ) (e : Exchange) : Type 0 where
@@ -67,9 +68,6 @@ record Silent (k : ℕ) (e : Exchange) : Type 0 where
   storing-pin : (okStatus (statusWord e) && isCommand (storesPin k) (e .call)) ≡ false
   signing : handsSignature e ≡ false
   resetting : resetDone (e .returned) ≡ false
-
-never : {A : Type 0} {t : Bool} → t ≡ false → t ≡ true → A
-never f e = absurd (false≢true (sym f ∙ e))
 
 -- A call that judges no code and unblocks none: what is left to show of the sheet.
 record Unjudged (k : ℕ) (e : Exchange) : Type 0 where
@@ -433,7 +431,26 @@ module _ (k : ℕ) (h3 : k < 3) (c : Card) (g : goodCodes (c .codes) ≡ true) (
       (never none-k)
       (never none-k))
 
-  -- 20 VERIFY
+  -- 20 VERIFY without data
+  module _ (i : h .ins ≡ 0x20) (few : h .p2 < 3) (no-data : h .lc ≡ 0) where
+    query-tests : (j : ℕ) → verifies j h ≡ false
+    unfolding verifies
+    query-tests j = rw (no-data, and-false)
+
+    query-presents : (j : ℕ) → presents j h ≡ false
+    query-presents j = presents-no j h (query-tests j) (changes-no j h (rw i)) (rw (presentsPuk-no j h (rw i), and-false))
+
+    query-sheet : T (queried cs (h .p2))
+    unfolding okStatus wrongStatus
+    query-sheet =
+        let t = codeOf cs (h .p2) .tries in
+        let few-tries : t ≤ 15 = omega (arith, code-tries (h .p2) (codeOf cs (h .p2)) (good-code cs g (h .p2) few)) in
+        let none-k : presents k h ≡ false = query-presents k in
+        queried-walk T cs (h .p2) (λ _. turned-down 0x6983 refl refl)
+        (λ _ _. untouched cs refl (query-tests k) (changes-no k h (rw i)) (unblocks-no k h (rw i)) none-k (rw (i, and-false)) (never (rw i)))
+        (λ _ _. mistaken cs t few-tries (rw none-k) (rw none-k) refl (never none-k) (never none-k) (never none-k))
+
+  -- 20 VERIFY with data
   module _ (i : h .ins ≡ 0x20) (few : h .p2 < 3) (some-data : hasData h ≡ true) where
     verify-tests : (j : ℕ) → verifies j h ≡ eqb (h .p2) j
     unfolding verifies
@@ -467,14 +484,17 @@ module _ (k : ℕ) (h3 : k < 3) (c : Card) (g : goodCodes (c .codes) ≡ true) (
         untouched codes (other-code cs j v few refl n)
         (verify-tests k ∙ other) (changes-no k h (rw i)) (unblocks-no k h (rw i)) (verify-presents k ∙ other) (rw (i, and-false)) (never (rw i)))
 
-    verify-sheet : T (verify cs h d)
-    unfolding verify judged okStatus wrongStatus
-    verify-sheet =
+    judged-sheet : T (judged cs (h .p2) (verdict (codeOf cs (h .p2)) d))
+    unfolding judged okStatus wrongStatus
+    judged-sheet =
         let j = h .p2 in
         verdict-walk (λ v. T (judged cs j v)) (codeOf cs j) d
         (λ _. turned-down 0x6983 refl refl)
         verify-right
         (λ some other. wrong-sheet j few (verify-presents j ∙ eq-eqb j j refl) (λ m n. verify-presents m ∙ ne-eqb j m (λ e. n (sym e))) some (rw i other))
+
+  verify-sheet : h .ins ≡ 0x20 → h .p2 < 3 → T (verify cs h d)
+  verify-sheet i few = verify-walk T cs h d (query-sheet i few) (λ some. judged-sheet i few (le-leb 1 (h .lc) some))
 
   -- 24 CHANGE
   module _ (i : h .ins ≡ 0x24) (few : h .p2 < 3) where
@@ -683,7 +703,7 @@ module _ (k : ℕ) (h3 : k < 3) (c : Card) (g : goodCodes (c .codes) ≡ true) (
   own-sheet ReadRecord i q l = session-sheet (rw i) (rw i) (rw i) _ (readRecord-permitted cs (c .profile) _ h)
   own-sheet ReadBinary i q l = session-sheet (rw i) (rw i) (rw i) _ (readBinary-permitted cs _ h auth sig)
   own-sheet GetResponse i q l = session-sheet (rw i) (rw i) (rw i) _ (getResponse-permitted cs _ h)
-  own-sheet Verify i q l = verify-sheet i (verify-code h q) l
+  own-sheet Verify i q l = verify-sheet i (verify-code h q)
   own-sheet Change i q l = change-sheet i (change-code h q)
   own-sheet ResetRetry i q l =
       resetRetry-sheet i (reset-code h q .0) (reset-code h q .1)
@@ -779,9 +799,13 @@ reset-sheet k h3 c =
     unjudged k c PowerReset _ (record { wrongly = refl; restoring = refl; freeing = refl; using-puk = refl })
     (simp and-false (ap (λ (v : Code). v .verified) now)) (ap (λ (v : Code). v .tries) now) (ap value now) (never refl) (never refl))
 
--- The sheet, for each code, every card and every call.
-pub code-sheet : CodeSheet
+-- Each code, after every call on every card.
+pub code-after : (k : ℕ) → k < 3 → (c : Card) (x : Call) → Sheet k c x (step c x)
 unfolding step
-code-sheet k h3 c (Command b auth sig w) = command-sheet k h3 c b auth sig w
-code-sheet k h3 c (Delivery r w) = delivery-sheet k c r w
-code-sheet k h3 c PowerReset = reset-sheet k h3 c
+code-after k h3 c (Command b auth sig w) = command-sheet k h3 c b auth sig w
+code-after k h3 c (Delivery r w) = delivery-sheet k c r w
+code-after k h3 c PowerReset = reset-sheet k h3 c
+
+-- The sheet.
+pub code-sheet : CodeSheet
+code-sheet = record { after = code-after; asked = asked-about }

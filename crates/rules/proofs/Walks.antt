@@ -28,8 +28,8 @@ use Rattle.rules.specs.Files.{filesIn, certificateFile, certificateOf, r
 use Rattle.rules.specs.Answers.{Step, SessionStep, response, codeStatus, sessionStatus, status, inSession}
 use Rattle.rules.specs.Answers.{moreBytes, give, handOut}
 use Rattle.rules.specs.FileCommands.{select, readRecord, readBinary, getResponse}
-use Rattle.rules.specs.CodeCommands.{swNotAllowed, swHasTries, verdict, judged, replaced, unblockByVerifiedPuk}
-use Rattle.rules.specs.CodeCommands.{unblockByPresentedPuk, resetRetry}
+use Rattle.rules.specs.CodeCommands.{swNotAllowed, swHasTries, verdict, judged, queried, verify, replaced}
+use Rattle.rules.specs.CodeCommands.{unblockByVerifiedPuk, unblockByPresentedPuk, resetRetry}
 use Rattle.rules.specs.Digests.{isDigest}
 use Rattle.rules.specs.KeyCommands.{swWithoutPin, setEnvironment, kindChosen, choosing, namesKey, chooseKey, jobKey}
 use Rattle.rules.specs.KeyCommands.{internalAuthenticate, sign, decipher}
@@ -186,6 +186,26 @@ verdict-walk P v presented none right wrong =
     split P (eqb (v .tries) 0) (λ e. none (eqb-true _ _ e))
     (λ n. let some : 1 ≤ v .tries = omega (arith, eqb-false (v .tries) 0 n) in
     split P (same presented (value v)) (right some) (wrong some))
+
+-- 20 VERIFY.
+pub queried-walk : (P : CodeStep → Type 0) (codes : List Code) (k : ℕ)
+    → (codeOf codes k .tries ≡ 0 → P (codeStatus codes 0x6983))
+    → (1 ≤ codeOf codes k .tries → codeOf codes k .verified ≡ true → P (codeStatus codes 0x9000))
+    → (1 ≤ codeOf codes k .tries → codeOf codes k .verified ≡ false → P (codeStatus codes (0x63C0 + codeOf codes k .tries)))
+    → P (queried codes k)
+unfolding queried
+queried-walk P codes k none given other =
+    split P (eqb (codeOf codes k .tries) 0) (λ e. none (eqb-true _ 0 e))
+    (λ n. let some : 1 ≤ codeOf codes k .tries = omega (arith, eqb-false (codeOf codes k .tries) 0 n) in
+    split P (codeOf codes k .verified) (given some) (other some))
+
+pub verify-walk : (P : CodeStep → Type 0) (codes : List Code) (h : Header) (d : Bytes)
+    → (h .lc ≡ 0 → P (queried codes (h .p2)))
+    → (1 ≤ h .lc → P (judged codes (h .p2) (verdict (codeOf codes (h .p2)) d)))
+    → P (verify codes h d)
+unfolding verify
+verify-walk P codes h d none some =
+    split P (eqb (h .lc) 0) (λ e. none (eqb-true _ _ e)) (λ n. some (omega (arith, eqb-false (h .lc) 0 n)))
 
 -- 24 CHANGE, and 2C RESET RETRY with P1 00.
 pub replaced-walk : (P : CodeStep → Type 0) (codes : List Code) (k j : ℕ) (new : Bytes) (stored : List Code) (presented : Bytes)

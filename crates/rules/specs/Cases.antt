@@ -75,6 +75,9 @@ withBody cla ins p1 p2 d = send (cla ∷ ins ∷ p1 ∷ p2 ∷ length d ∷ d)
 abbrev pub verifyOf : ℕ → Bytes → Call
 verifyOf k d = withBody 0x00 0x20 0x00 k d
 
+abbrev pub asking : ℕ → Call
+asking k = send (0x00 ∷ 0x20 ∷ 0x00 ∷ k ∷ [])
+
 abbrev pub wrongPin1 : Call
 wrongPin1 = verifyOf PIN1 (0x39 ∷ 0x39 ∷ 0x39 ∷ 0x39 ∷ [])
 
@@ -126,6 +129,43 @@ cases =
     ∷ record {
       seen = onSample (verifyOf PIN2 pin2 ∷ signSha1 ∷ deliverTo [] ∷ signSha1 ∷ []);
       expected = sw 0x9000 ∷ signJob ∷ sw 0x6400 ∷ sw 0x6982 ∷ fresh;
+    }
+    -- P1 and P2 with queries between (02, wish 1): as without them
+    ∷ record {
+      seen = onSample (
+          wrongPin1
+          ∷ asking PIN1
+          ∷ wrongPin1
+          ∷ asking PIN1
+          ∷ asking PIN1
+          ∷ wrongPin1
+          ∷ asking PIN1
+          ∷ verifyOf PIN1 pin1
+          ∷ []
+          );
+      expected =
+          sw 0x63C2
+          ∷ sw 0x63C2
+          ∷ sw 0x63C1
+          ∷ sw 0x63C1
+          ∷ sw 0x63C1
+          ∷ sw 0x63C0
+          ∷ sw 0x6983
+          ∷ sw 0x6983
+          ∷ code PUK 3 false ∷ code PIN1 0 false ∷ code PIN2 3 false ∷ [];
+    }
+    ∷ record {
+      seen = onSample (
+          asking PIN2
+          ∷ verifyOf PIN2 pin2
+          ∷ asking PIN2
+          ∷ signSha1
+          ∷ deliverTo (replicate 256 0x5A)
+          ∷ asking PIN2
+          ∷ signSha1
+          ∷ []
+          );
+      expected = sw 0x63C3 ∷ sw 0x9000 ∷ sw 0x9000 ∷ signJob ∷ sw 0x6100 ∷ sw 0x63C3 ∷ sw 0x6982 ∷ fresh;
     }
     -- P3 00 2C 03 01: 6A86
     ∷ record { seen = onSample (send (0x00 ∷ 0x2C ∷ 0x03 ∷ 0x01 ∷ []) ∷ []); expected = sw 0x6A86 ∷ fresh }
@@ -191,6 +231,6 @@ cases =
     }
     ∷ []
 
--- P1 to P10, together.
+-- P1 to P10 and the entries beside them, together.
 abbrev pub PCases : Type 0
 PCases = map (λ x. x .seen) cases ≡ map (λ x. x .expected) cases

@@ -35,11 +35,19 @@ judged codes k Wrong =
     codeStatus (withCode codes k (marked (codeOf codes k) (codeOf codes k .tries - 1) false)) (0x63C0 + (codeOf codes k .tries - 1))
 judged codes k NoTries = codeStatus codes 0x6983
 
--- 20 VERIFY.
+-- 20 VERIFY without data asks whether code k is open (02, wish 1). No tries: 6983. Verified: 9000. Else 63Cx with x left. No code changes.
+unfoldable pub queried : List Code → ℕ → CodeStep
+queried codes k =
+    cond (eqb (codeOf codes k .tries) 0) (codeStatus codes 0x6983)
+    (cond (codeOf codes k .verified) (codeStatus codes 0x9000)
+    (codeStatus codes (0x63C0 + codeOf codes k .tries)))
+
+-- 20 VERIFY. Without data it asks; with data the value is judged.
 unfoldable pub verify : List Code → Header → Bytes → CodeStep
 verify codes h d =
     let k = h .p2 in
-    judged codes k (verdict (codeOf codes k) d)
+    cond (eqb (h .lc) 0) (queried codes k)
+    (judged codes k (verdict (codeOf codes k) d))
 
 -- The data of CHANGE and of RESET RETRY with P1 00: a value as long as the stored one of code k, then a new value.
 abbrev pub oldValue : List Code → ℕ → Bytes → Bytes

@@ -14,8 +14,8 @@ use Rattle.rules.specs.Numbers.{kindNumber, Returned, edge, responded, h
 use Rattle.rules.specs.Codes.{PUK, PIN1, PIN2, fullTries, value, codeOf}
 use Rattle.rules.specs.Edge.{Result}
 use Rattle.rules.specs.Counting.{Call, Exchange, step, exchangeOf, statusWord, sentBy, readOff, dataSent, okStatus}
-use Rattle.rules.specs.Counting.{changes, unblocks, presentsPuk, answers, wrongAnswer, restoration, unblocking}
-use Rattle.rules.specs.Counting.{rightVerify, handsJob, handsSignature}
+use Rattle.rules.specs.Counting.{wrongStatus, isCommand, queries, changes, unblocks, presentsPuk, answers}
+use Rattle.rules.specs.Counting.{wrongAnswer, restoration, unblocking, rightVerify, handsJob, handsSignature}
 
 -- 9000 to a CHANGE of code k.
 abbrev pub changed : ℕ → Exchange → Bool
@@ -107,6 +107,39 @@ pub record Sheet (k : ℕ) (c : Card) (x : Call) (o : Result) : Type 0 where
   pub pin1Used : handsPin1Job (exchangeOf x o) ≡ true → codeOf (c .codes) PIN1 .verified ≡ true
   pub signed : handsSignature (exchangeOf x o) ≡ true → codeOf (c .codes) PIN2 .verified ≡ true
 
+-- A VERIFY without data that asks about code k; one that steps 2 to 6 pass. 6983.
+abbrev pub asksAbout : ℕ → Header → Bool
+asksAbout k h = queries h && eqb (h .p2) k
+
+abbrev pub asksPlainly : ℕ → Header → Bool
+asksPlainly k h = asksAbout k h && eqb (h .cla) 0x00 && eqb (h .p1) 0x00
+
+abbrev pub blockedStatus : ℕ → Bool
+blockedStatus sw = eqb sw 0x6983
+
+-- What a query is answered, or 0 where the edge refused it.
+abbrev pub queryStatus : ℕ → Bool
+queryStatus sw = eqb sw 0 || okStatus sw || wrongStatus sw || blockedStatus sw
+
+-- The sheet's row for a query (02, wish 1): it leaves all codes as they were, and its answer says whether code k is verified and how
+-- many tries it has left.
+pub record Asked (k : ℕ) (c : Card) (x : Call) (o : Result) : Type 0 where
+  pub codes : isCommand queries x ≡ true → o .card .codes ≡ c .codes
+  -- where the edge does not refuse it, the answer is 9000, 63Cx or 6983
+  pub answered : isCommand (asksPlainly k) x ≡ true → queryStatus (statusWord (exchangeOf x o)) ≡ true
+  -- 9000: verified
+  pub verified : answers okStatus (asksAbout k) (exchangeOf x o) ≡ true → codeOf (c .codes) k .verified ≡ true
+  -- 63Cx: not verified, and x tries left
+  pub unverified : answers wrongStatus (asksAbout k) (exchangeOf x o) ≡ true → codeOf (c .codes) k .verified ≡ false
+  pub left : answers wrongStatus (asksAbout k) (exchangeOf x o) ≡ true
+      → statusWord (exchangeOf x o) ≡ 0x63C0 + codeOf (c .codes) k .tries
+  -- 6983: no tries left; 9000 and 63Cx: some
+  pub blocked : answers blockedStatus (asksAbout k) (exchangeOf x o) ≡ true → codeOf (c .codes) k .tries ≡ 0
+  pub hasTries : answers (λ sw. okStatus sw || wrongStatus sw) (asksAbout k) (exchangeOf x o) ≡ true → 1 ≤ codeOf (c .codes) k .tries
+
 -- For each code, every card, good or not, and every call.
-abbrev pub CodeSheet : Type 0
-CodeSheet = (k : ℕ) → k < 3 → (c : Card) (x : Call) → Sheet k c x (step c x)
+pub record CodeSheet : Type 0 where
+  -- the code after the call
+  pub after : (k : ℕ) → k < 3 → (c : Card) (x : Call) → Sheet k c x (step c x)
+  -- what a query is told
+  pub asked : (k : ℕ) → k < 3 → (c : Card) (x : Call) → Asked k c x (step c x)

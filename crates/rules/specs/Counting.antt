@@ -1,7 +1,7 @@
 -- Document 01, "What demand 3 counts": sequences of calls, and what is counted of the calls' bytes and what they wrote and returned.
 -- "Wrong answer", "restoration", "unblocking" and "right presentation" are document 01's terms; "exchange" and "trace" are ours.
 use Prim.Native.Nat.{ℕ, zero, suc, _+_, _-_}
-use mathlib.Core.Bool.{Bool, true, false, _&&_, _||_}
+use mathlib.Core.Bool.{Bool, true, false, not, _&&_, _||_}
 use mathlib.Core.List.{List, [], _∷_}
 use lib.ListN.{drop}
 use lib.Dec.{eqb, leb}
@@ -104,6 +104,10 @@ wrongStatus sw = leb 0x63C0 sw && leb sw 0x63CF
 
 unfoldable pub okStatus : ℕ → Bool
 okStatus sw = eqb sw 0x9000
+
+-- A VERIFY without data, which asks and presents nothing (02, wish 1).
+unfoldable pub queries : Header → Bool
+queries h = eqb (h .ins) 0x20 && not (hasData h)
 
 -- A VERIFY with data for code k; a CHANGE for code k; a 2C with P1 00; a 2C, P1 00 or 03, for PIN k.
 unfoldable pub verifies : ℕ → Header → Bool

@@ -20,7 +20,7 @@ use Rattle.rules.specs.Edge.{refuse}
 use Rattle.rules.specs.Image.{load, zeroCard}
 use Rattle.rules.specs.Counting.{Call, Command, Delivery, PowerReset, step, next, exchange, trace, statusWord}
 use Rattle.rules.specs.Counting.{dataSent, wrongAnswers, restorations, unblockings, signatures, pin2Presentations}
-use Rattle.rules.specs.Counting.{ofBytes, allOfBytes, triesAtLoad}
+use Rattle.rules.specs.Counting.{isCommand, queries, ofBytes, allOfBytes, triesAtLoad}
 
 -- The buffer that a call brings.
 abbrev pub bufferOf : Call → Bytes
@@ -144,6 +144,19 @@ pub record Counted (image : Bytes) (c : Card) : Type 0 where
       → (k : ℕ) → k < 3 → (r u : ℕ) → (k ≡ PUK → u ≡ 0) → Reached c k r u (3 + 2 * r + 3 * u)
   -- the signatures handed to the key host are at most the right presentations of PIN2 by VERIFY
   pub signed : (calls : List Call) → signatures (trace c calls) ≤ pin2Presentations (trace c calls)
+
+-- A call that leaves all codes as they were and adds nothing to what demand 3 counts, whatever calls follow it.
+pub record Uncounted (c : Card) (x : Call) : Type 0 where
+  pub codes : next c x .codes ≡ c .codes
+  pub wrong : (k : ℕ) (calls : List Call) → wrongAnswers k (trace c (x ∷ calls)) ≡ wrongAnswers k (trace (next c x) calls)
+  pub restored : (k : ℕ) (calls : List Call) → restorations k (trace c (x ∷ calls)) ≡ restorations k (trace (next c x) calls)
+  pub unblocked : (k : ℕ) (calls : List Call) → unblockings k (trace c (x ∷ calls)) ≡ unblockings k (trace (next c x) calls)
+  pub presented : (calls : List Call) → pin2Presentations (trace c (x ∷ calls)) ≡ pin2Presentations (trace (next c x) calls)
+  pub signed : (calls : List Call) → signatures (trace c (x ∷ calls)) ≡ signatures (trace (next c x) calls)
+
+-- 02, wish 1: a VERIFY without data is such a call, on every card, whatever else its bytes are.
+abbrev pub Queries : Type 0
+Queries = (c : Card) (x : Call) → isCommand queries x ≡ true → Uncounted c x
 
 -- Demand 3: one statement over every image that loads and any sequence of calls.
 abbrev pub Demand3 : Type 0

@@ -1,6 +1,6 @@
 -- Document 01, "Order of judgement for a command": steps 1 to 7, and what drops the held answer and the chain.
 use Prim.Native.Nat.{ℕ}
-use mathlib.Core.Bool.{Bool, cond, not, _&&_, _||_}
+use mathlib.Core.Bool.{Bool, true, cond, not, _&&_, _||_}
 use mathlib.Core.List.{List, [], _∷_, map}
 use lib.Dec.{eqb, leb, ltb}
 use Rattle.octets.specs.Octets.{Bytes, member}
@@ -75,13 +75,13 @@ hasData h = leb 1 (h .lc)
 abbrev pub hasLe : Header → Bool
 hasLe h = leb 1 (h .le)
 
--- Data and Le of each. Le that isn't needed is ignored.
+-- Data and Le of each. Le that isn't needed is ignored. VERIFY has data or none (02, wish 1).
 unfoldable pub lengths : Command → Header → Bool
 lengths Select h = cond (eqb (h .p1) 0x00) (noData h) (eqb (h .lc) 2)
 lengths ReadRecord h = noData h
 lengths ReadBinary h = noData h && hasLe h
 lengths GetResponse h = noData h && hasLe h
-lengths Verify h = hasData h
+lengths Verify h = true
 lengths Change h = hasData h
 lengths ResetRetry h = cond (eqb (h .p1) 0x03) (noData h) (hasData h)
 lengths SetEnvironment h = noData h
