@@ -13,25 +13,34 @@ use std::collections::BTreeSet;
 const SEEDS: u64 = 4;
 const LINES: usize = 4000;
 
-#[test]
-fn every_answer_occurs() {
-    let mut seen = BTreeSet::new();
+/// The lines of all seeds with their answers.
+fn play() -> Vec<(Vec<u8>, String)> {
+    let mut played = Vec::new();
     for seed in 1..=SEEDS {
         let mut session = Transcript::sample();
         for line in Generator::new(seed, LINES).take(LINES) {
             assert!(!line.contains(&b'\n'));
-            let output = session.line(&line);
+            let answer = session.line(&line);
             assert!(session.card().is_good());
-            let word = match output.as_bytes()[0] {
-                b'R' => output[output.len() - 4..].to_string(),
-                b'J' => output[..2].to_string(),
-                _ => output,
-            };
-            if word.starts_with("61") && word != "6100" {
-                seen.insert("61xx".to_string());
-            }
-            seen.insert(word);
+            played.push((line, answer));
         }
+    }
+    played
+}
+
+#[test]
+fn every_answer_occurs() {
+    let mut seen = BTreeSet::new();
+    for (_, answer) in play() {
+        let word = match answer.as_bytes()[0] {
+            b'R' => answer[answer.len() - 4..].to_string(),
+            b'J' => answer[..2].to_string(),
+            _ => answer,
+        };
+        if word.starts_with("61") && word != "6100" {
+            seen.insert("61xx".to_string());
+        }
+        seen.insert(word);
     }
     let named = "6700 6E00 6D00 6884 6A86 6A82 6986 6981 6A83 6B00 6985 6983 63C0 63C1 63C2 63C3 6A80 6982 6A88 \
                  6400 61xx 6100 9000 H4 H5 J1 J2 J3 P ?";
@@ -42,14 +51,7 @@ fn every_answer_occurs() {
 
 #[test]
 fn each_code_is_asked_about_in_each_state() {
-    let mut seen = BTreeSet::new();
-    for seed in 1..=SEEDS {
-        let mut session = Transcript::sample();
-        for line in Generator::new(seed, LINES).take(LINES) {
-            let answer = session.line(&line);
-            seen.extend(query(&line, &answer));
-        }
-    }
+    let seen: BTreeSet<String> = play().iter().filter_map(|(line, answer)| query(line, answer)).collect();
     for wanted in queries_of_each_code(&STATES) {
         assert!(seen.contains(&wanted), "{wanted} in {seen:?}");
     }

@@ -1,7 +1,7 @@
 -- SELECT, READ RECORD, READ BINARY and GET RESPONSE: a law for each of their answers.
-use mathlib.Core.Path.{_≡_, refl, sym, ap, _∙_}
+use mathlib.Core.Path.{_≡_, refl, ap, _∙_}
 use mathlib.Core.Logic.{_≢_}
-use mathlib.Core.Bool.{Bool, true, false, not, cond, _&&_, _||_, false≢true}
+use mathlib.Core.Bool.{Bool, true, false, not, cond, _&&_, _||_}
 use mathlib.Core.List.{List}
 use Prim.Native.Nat.{ℕ, _-_, _≤_, _<_}
 use lib.Dec.{eqb, leb}
@@ -9,7 +9,7 @@ use lib.Seq.{take-take}
 use native.Mathlib.Omega.{arith}
 use lib.ListN.{length, take, drop, length-drop}
 use borrow.Author.Tests.{eq-eqb, ne-eqb, lt-ltb, le-ltb, le-leb, lt-leb, leb-true, leb-false, eqb-true}
-use Rattle.octets.proofs.Tests.{split, or-cases}
+use Rattle.octets.proofs.Tests.{split, or-cases, neither}
 use Rattle.octets.proofs.Cutting.{uncut-first}
 use Rattle.octets.specs.Octets.{Bytes, byteAt, word, member}
 use Rattle.rules.specs.declared.Code.{Code}
@@ -59,11 +59,6 @@ puk-uncut t = refl
 pub pin-uncut : (t : ℕ) → take 256 (pinRecord t) ≡ pinRecord t
 unfolding pinRecord
 pin-uncut t = refl
-
--- Both of two tests that are not passed.
-neither : (s t : Bool) → (s || t) ≡ false → (s ≡ false) × (t ≡ false)
-neither true t e = absurd (false≢true (sym e))
-neither false t e = (refl, e)
 
 module _ (codes : List Code) (n : ℕ) where
   pub pin-shown : (eqb n 1 || eqb n 2) ≡ true → pinRecord (codeOf codes n .tries) ≡ counterRecord codes n

@@ -41,6 +41,11 @@ pub or-cases : (P : Type 0) (s t : Bool) → (s || t) ≡ true → (s ≡ true �
 or-cases P true t e h g = h refl
 or-cases P false t e h g = g e
 
+-- Neither of two tests.
+pub neither : (s t : Bool) → (s || t) ≡ false → (s ≡ false) × (t ≡ false)
+neither true t e = absurd (false≢true (sym e))
+neither false t e = (refl, e)
+
 -- The test at a place of a list of tests that are all true.
 pub nth : (ts : List Bool) (i : ℕ) → every ts ≡ true → getD ts i true ≡ true
 nth [] i e = refl

@@ -1,6 +1,6 @@
 -- Demand 1: what a call on any card refuses, writes and leaves.
 use mathlib.Core.Path.{_≡_, refl, sym, ap, _∙_}
-use mathlib.Core.Bool.{Bool, true, false, not, _||_, or-true, false≢true}
+use mathlib.Core.Bool.{true, false, not, _||_, or-true, false≢true}
 use mathlib.Core.List.{_∷_, _++_}
 use Prim.Native.Nat.{ℕ, _+_, _-_, _/_, _%_, _≤_}
 use native.Mathlib.Nat.{div-add-mod'}
@@ -10,7 +10,7 @@ use lib.ListN.{length, drop, length-append, length-drop}
 use lib.Seq.{drop-append-add, getD-append-add, getD-at}
 use borrow.Author.Tests.{eqb-true, eqb-false, ltb-true, ltb-false, lt-ltb, le-ltb, eq-eqb, ne-eqb, not-true, not-false}
 use Rattle.octets.specs.Octets.{Bytes, byteAt}
-use Rattle.octets.proofs.Tests.{split, by-test, or-cases}
+use Rattle.octets.proofs.Tests.{split, by-test, or-cases, neither}
 use Rattle.rules.specs.declared.Card.{Card}
 use Rattle.rules.specs.declared.Session.{Session}
 use Rattle.rules.specs.Numbers.{Returned, edge, responded, handedOut, refused}
@@ -28,6 +28,7 @@ use Rattle.rules.specs.Demands.{authenticationCertificate, signatureCert
 use Rattle.rules.specs.Demands.{Possible, commandResponse, commandJob, deliveryResponse, reset, blockOf}
 use Rattle.rules.specs.Demands.{refusalStatus, Demand1, ProfileKept}
 use Rattle.rules.proofs.Forms.{refusal-6700, data-sent}
+use Rattle.rules.proofs.Walks.{command-walk, delivery-walk}
 use Rattle.rules.proofs.Keeping.{Gives, refuses, responds, handsOut, resets, JobOf, call-gives}
 
 -- A response in the buffer.
@@ -122,10 +123,6 @@ sized-of {c} (handsOut x new kind key block g own room) =
 sized-of (resets new g) = refl
 
 -- A certificate, by the edge's test.
-neither : (s t : Bool) → (s || t) ≡ false → (s ≡ false) × (t ≡ false)
-neither true t e = absurd (false≢true (sym e))
-neither false t e = (refl, e)
-
 not-lent : (b : Bytes) → badCertificate b ≡ true → ¬ LengthFits b
 not-lent b e l =
     or-cases ⊥ (eqb (length b) 0) (ltb 1536 (length b)) e
@@ -255,18 +252,11 @@ written-profile w new (response d sw) = refl
 written-profile w new (job kind key block) = refl
 
 pub profile-kept : ProfileKept
-unfolding step command delivery powerReset
+unfolding step powerReset
 profile-kept c (Command apdu authentication signature buffer) =
-    let P : Result → Type 0 = λ o. o .card .profile ≡ c .profile in
-    split P (not (good c)) (λ _. refl)
-    (λ _. split P (shortBuffer buffer) (λ _. refl)
-    (λ _. split P (badCertificate authentication || badCertificate signature) (λ _. refl)
-    (λ _. split P (jobWaits c) (λ _. refl) (λ _. written-profile buffer _ _))))
+    command-walk (λ o. o .card .profile ≡ c .profile) c apdu authentication signature buffer (λ _. refl) (λ _ _ _. written-profile buffer _ _)
 profile-kept c (Delivery result buffer) =
-    let P : Result → Type 0 = λ o. o .card .profile ≡ c .profile in
-    split P (not (good c)) (λ _. refl)
-    (λ _. split P (shortBuffer buffer) (λ _. refl)
-    (λ _. split P (not (jobWaits c)) (λ _. refl) (λ _. written-profile buffer _ _)))
+    delivery-walk (λ o. o .card .profile ≡ c .profile) c result buffer (λ _. refl) (λ _ _. written-profile buffer _ _)
 profile-kept c PowerReset = split (λ (o : Returned × Card). o .1 .profile ≡ c .profile) (not (good c)) (λ _. refl) (λ _. refl)
 
 pub demand-1 : Demand1

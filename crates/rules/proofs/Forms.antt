@@ -1,6 +1,6 @@
 -- Laws of the length form: Le is at most 256, 6700 is the only refusal, and what data a form says.
 use mathlib.Core.Path.{_≡_, refl, sym, ap, _∙_}
-use mathlib.Core.Bool.{true, _&&_}
+use mathlib.Core.Bool.{Bool, true, _&&_}
 use mathlib.Core.List.{[]}
 use Prim.Native.Nat.{ℕ, _+_, _-_, _≤_, _<_}
 use native.Mathlib.Omega.{arith}
@@ -12,7 +12,7 @@ use Rattle.octets.proofs.Buffers.{byte-below}
 use Rattle.rules.specs.declared.Header.{Header}
 use Rattle.rules.specs.Numbers.{LengthForm, form, refused}
 use Rattle.rules.specs.Apdu.{leOf, lcByte, parse, dataOf}
-use Rattle.rules.specs.Counting.{formSends, readOff}
+use Rattle.rules.specs.Counting.{Command, formSends, sentBy, readOff, isCommand}
 
 -- A command of bytes has Le at most 256.
 pub data FitForm : LengthForm → Type 0 where
@@ -70,3 +70,9 @@ pub data-sent : (b : Bytes) (p : LengthForm) → readOff (λ h d. d) [] (formSen
 unfolding readOff formSends
 data-sent b (form h start) = refl
 data-sent b (refused sw) = refl
+
+-- What is asked of a command's header is asked of the header that its length form gives.
+pub asked : (b authentication signature w : Bytes) {h : Header} {start : ℕ} → parse b ≡ form h start
+    → (t : Header → Bool) → isCommand t (Command b authentication signature w) ≡ t h
+unfolding sentBy formSends readOff
+asked b authentication signature w p t = rw p

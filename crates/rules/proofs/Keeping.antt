@@ -27,12 +27,12 @@ use Rattle.rules.specs.Judgement.{commands, instruction, parameters, has
 use Rattle.rules.specs.Judgement.{knownClass, knownInstruction, badChaining, namedIn, judgeNamed, judgeHeader}
 use Rattle.rules.specs.Judgement.{judgeForm, judge}
 use Rattle.rules.specs.Delivery.{deliver}
-use Rattle.rules.specs.Edge.{Result, refuse, responseIn, written, cardAfter, answered, shortBuffer, badCertificate}
-use Rattle.rules.specs.Edge.{jobWaits, command, delivery, powerReset}
+use Rattle.rules.specs.Edge.{Result, refuse, responseIn, written, cardAfter, answered, powerReset}
 use Rattle.rules.specs.Counting.{Call, Command, Delivery, PowerReset, step, next, ofBytes}
 use Rattle.rules.specs.Demands.{bufferOf}
 use Rattle.rules.proofs.Forms.{FitForm, wellFormed, malformed, formData, parse-fits}
 use Rattle.rules.proofs.Parts.{good-codes, good-profile, good-references, good-session, good-card}
+use Rattle.rules.proofs.Walks.{command-walk, delivery-walk}
 use Rattle.rules.proofs.Sessions.{held-replaced, chain-replaced, new-session-good}
 use Rattle.rules.proofs.KeepingAnswers.{FitResponse, Fit, NoJob, OwnJob, Keeps, KeepsCodes, KeepsBoth}
 use Rattle.rules.proofs.KeepingAnswers.{status-fits}
@@ -196,28 +196,21 @@ all-closed : (codes : List Code) → goodCodes codes ≡ true → goodCodes (clo
 all-closed codes g = closed-good _ (closed-good _ (closed-good codes g PUK (omega arith)) PIN1 (omega arith)) PIN2 (omega arith)
 
 pub call-gives : (c : Card) (x : Call) → ofBytes x ≡ true → Gives c x (step c x)
-unfolding step command delivery powerReset
+unfolding step powerReset
 call-gives c (Command apdu authentication signature buffer) bytes =
     let x : Call = Command apdu authentication signature buffer in
-    let G : Result → Type 0 = Gives c x in
-    split G (not (good c)) (λ e. refuses x 1)
-    (λ g. split G (shortBuffer buffer) (λ e. refuses x 2)
-    (λ room. split G (badCertificate authentication || badCertificate signature) (λ e. refuses x 3)
-    (λ e. split G (jobWaits c) (λ e. refuses x 4)
-    (λ idle. answered-gives c x (ltb-false _ _ room) (not-false _ g) (judge c apdu authentication signature)
-    (judge-keeps c (not-false _ g) (eqb-true _ _ (not-false _ idle)) apdu authentication signature (apdu-bytes bytes))))))
+    command-walk (Gives c x) c apdu authentication signature buffer (refuses x)
+    (λ g room idle. answered-gives c x (ltb-false _ _ room) g (judge c apdu authentication signature)
+    (judge-keeps c g (eqb-true _ _ (not-false _ idle)) apdu authentication signature (apdu-bytes bytes)))
   where
     apdu-bytes : ofBytes (Command apdu authentication signature buffer) ≡ true → allBytes apdu ≡ true
     apdu-bytes e = and-left _ (allBytes authentication) (and-left _ (allBytes signature) (and-left _ (allBytes buffer) e))
 call-gives c (Delivery result buffer) bytes =
     let x : Call = Delivery result buffer in
-    let G : Result → Type 0 = Gives c x in
-    split G (not (good c)) (λ e. refuses x 1)
-    (λ g. split G (shortBuffer buffer) (λ e. refuses x 2)
-    (λ room. split G (not (jobWaits c)) (λ e. refuses x 5)
-    (λ e. let kept = deliver-keeps (c .profile .keys) (c .session) (good-session c (not-false _ g)) result in
-    answered-gives c x (ltb-false _ _ room) (not-false _ g) (inSession (c .codes) (deliver (c .session) result))
-    (record { codes = good-codes c (not-false _ g); session = kept .session; answer = kept .answer }))))
+    delivery-walk (Gives c x) c result buffer (refuses x)
+    (λ g room. let kept = deliver-keeps (c .profile .keys) (c .session) (good-session c g) result in
+    answered-gives c x (ltb-false _ _ room) g (inSession (c .codes) (deliver (c .session) result))
+    (record { codes = good-codes c g; session = kept .session; answer = kept .answer }))
 call-gives c PowerReset bytes =
     split (λ (o : _ × Card). Gives c PowerReset (record { returned = o .0; card = o .1; buffer = [] })) (not (good c)) (λ e. refuses PowerReset 1)
     (λ g. resets _ (good-card _ (all-closed (c .codes) (good-codes c (not-false _ g))) (good-profile c (not-false _ g)) (new-session-good _)))

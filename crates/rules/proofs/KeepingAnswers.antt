@@ -1,5 +1,5 @@
 -- What every command keeps: a good state, and an answer that fits the buffer.
-use mathlib.Core.Path.{_≡_, refl, sym, _∙_}
+use mathlib.Core.Path.{_≡_, refl}
 use mathlib.Core.Bool.{Bool, true, false, and-false, false≢true}
 use mathlib.Core.List.{List, []}
 use Prim.Native.Nat.{ℕ, _+_, _/_, _≤_, _<_}
@@ -8,7 +8,7 @@ use lib.Dec.{eqb, leb, ltb}
 use lib.ListN.{length}
 use borrow.Author.Tests.{eqb-false, ltb-true, eq-eqb, le-leb}
 use Rattle.octets.specs.Octets.{Bytes}
-use Rattle.octets.proofs.Tests.{split}
+use Rattle.octets.proofs.Tests.{split, never}
 use Rattle.rules.specs.declared.CodeStep.{CodeStep}
 use Rattle.rules.specs.declared.Session.{Session}
 use Rattle.rules.specs.declared.JobKind.{JobKind}
@@ -80,7 +80,7 @@ more-fits {d} {n} h le =
     record {
       size = h;
       word = omega (arith, more-range n le);
-      refusal = λ e. absurd (false≢true (sym (simp (eq-eqb _ _ high, and-false)) ∙ e));
+      refusal = never (simp (eq-eqb _ _ high, and-false));
     }
 
 module _ {J : ℕ → Bytes → Type 0} {keys : List Bool} {s : Session} (g : goodSession keys s ≡ true) where

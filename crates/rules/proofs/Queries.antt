@@ -5,7 +5,7 @@ use mathlib.Core.List.{List, [], _∷_}
 use Prim.Native.Nat.{ℕ, _+_, _≤_, _<_}
 use native.Mathlib.Omega.{arith}
 use lib.Dec.{eqb}
-use borrow.Author.Tests.{eqb-true, leb-false, ne-eqb, le-leb, not-true, not-false}
+use borrow.Author.Tests.{eqb-true, leb-false, ne-eqb, le-leb, not-true}
 use Rattle.octets.specs.Octets.{Bytes}
 use Rattle.octets.proofs.Tests.{split, by-test, and-left, and-right, never}
 use Rattle.rules.specs.declared.Card.{Card}
@@ -20,12 +20,12 @@ use Rattle.rules.specs.Numbers.{LengthForm, form, refused, Naming}
 use Rattle.rules.specs.Apdu.{parse, dataOf}
 use Rattle.rules.specs.Codes.{PIN2, codeOf}
 use Rattle.rules.specs.Session.{dropBoth}
-use Rattle.rules.specs.State.{goodCodes, good}
+use Rattle.rules.specs.State.{goodCodes}
 use Rattle.rules.specs.Answers.{response, Step, codeStatus, inCodes}
 use Rattle.rules.specs.CodeCommands.{queried, verify}
 use Rattle.rules.specs.Judgement.{commands, instruction, parameters, hasData, lengths, ownRules, refusal, knownClass}
 use Rattle.rules.specs.Judgement.{knownInstruction, badChaining, namedIn, judgeNamed, judgeHeader, judgeForm, judge}
-use Rattle.rules.specs.Edge.{Result, refuse, written, answered, shortBuffer, badCertificate, jobWaits, command}
+use Rattle.rules.specs.Edge.{Result, refuse, written, answered, command}
 use Rattle.rules.specs.Counting.{Call, Command, Delivery, PowerReset, Exchange, step, exchange, exchangeOf, next, trace}
 use Rattle.rules.specs.Counting.{number, statusWord, returnedStatus, returnedKind, formSends, sentBy, readOff}
 use Rattle.rules.specs.Counting.{isCommand, okStatus, wrongStatus, queries, verifies, changes, presentsPuk, presents}
@@ -34,7 +34,8 @@ use Rattle.rules.specs.CodeSheet.{asksAbout, asksPlainly, blockedStatus,
 use Rattle.rules.specs.Demands.{Uncounted, Queries}
 use Rattle.rules.proofs.StatusWords.{status-read, wrong-status, wrong-not-ok}
 use Rattle.rules.proofs.Parts.{good-code, good-codes, code-tries}
-use Rattle.rules.proofs.Walks.{queried-walk, verify-walk}
+use Rattle.rules.proofs.Forms.{asked}
+use Rattle.rules.proofs.Walks.{queried-walk, verify-walk, command-walk}
 use Rattle.rules.proofs.Keeping.{Found, is, nothing, found, verify-code}
 
 -- What a status word tells of a code.
@@ -77,30 +78,32 @@ record Gives (c : Card) (k : ℕ) (o : Step) : Type 0 where
   answer : o .answer ≡ response [] word
   told : Told (codeOf (c .codes) k) word
 
+-- A VERIFY without data presents a value for no code and unblocks none.
+module _ (h : Header) (verifying : h .ins ≡ 0x20) (without : h .lc ≡ 0) (k : ℕ) where
+  pub verifies-nothing : verifies k h ≡ false
+  unfolding verifies
+  verifies-nothing = rw (without, and-false)
+
+  pub presents-nothing : presents k h ≡ false
+  unfolding presents verifies changes presentsPuk
+  presents-nothing = rw (verifying, without, and-false)
+
+  pub unblocks-nothing : unblocks k h ≡ false
+  unfolding unblocks
+  unblocks-nothing = rw verifying
+
 -- A header of a query.
 module _ (h : Header) (q : queries h ≡ true) where
   is-verify : eqb (h .ins) 0x20 ≡ true
   unfolding queries
   is-verify = and-left (eqb (h .ins) 0x20) (not (hasData h)) q
 
-  no-data : h .lc ≡ 0
-  unfolding queries
-  no-data = omega (arith, leb-false 1 (h .lc) (not-true _ (and-right (eqb (h .ins) 0x20) _ q)))
-
   ins : h .ins ≡ 0x20
   ins = eqb-true (h .ins) 0x20 is-verify
 
-  presents-nothing : (k : ℕ) → presents k h ≡ false
-  unfolding presents verifies changes presentsPuk
-  presents-nothing k = rw (ins, no-data, and-false)
-
-  verifies-nothing : (k : ℕ) → verifies k h ≡ false
-  unfolding verifies
-  verifies-nothing k = rw (no-data, and-false)
-
-  unblocks-nothing : (k : ℕ) → unblocks k h ≡ false
-  unfolding unblocks
-  unblocks-nothing k = rw ins
+  no-data : h .lc ≡ 0
+  unfolding queries
+  no-data = omega (arith, leb-false 1 (h .lc) (not-true _ (and-right (eqb (h .ins) 0x20) _ q)))
 
   -- What it gives on a card with good codes.
   module _ (c : Card) (g : goodCodes (c .codes) ≡ true) (d auth sig : Bytes) where
@@ -174,13 +177,10 @@ module _ (c : Card) (b auth sig w : Bytes) (h : Header) (start : ℕ) (p : parse
   word-written o s = record { codes = rw (s .answer) (s .codes); kind = rw (s .answer); told = rw (s .answer, status-read w (s .word)) (s .told) }
 
   gives : Answers (command c b auth sig w)
-  unfolding command judge judgeForm
+  unfolding judge judgeForm
   gives =
-      split Answers (not (good c)) (λ _. edge-refusal 1)
-      (λ g. split Answers (shortBuffer w) (λ _. edge-refusal 2)
-      (λ _. split Answers (badCertificate auth || badCertificate sig) (λ _. edge-refusal 3)
-      (λ _. split Answers (jobWaits c) (λ _. edge-refusal 4)
-      (λ _. rw p (word-written _ (judged-plainly h q c (good-codes c (not-false _ g)) (dataOf b start h) auth sig))))))
+      command-walk Answers c b auth sig w edge-refusal
+      (λ g _ _. rw p (word-written _ (judged-plainly h q c (good-codes c g) (dataOf b start h) auth sig)))
 
   -- what a query that passes steps 2 to 6 is answered
   module _ (k : ℕ) (few : k < 3) (plain : asksPlainly k h ≡ true) where
@@ -211,24 +211,17 @@ module _ (c : Card) (b auth sig w : Bytes) (h : Header) (start : ℕ) (p : parse
     word-told sw e = ap queryStatus (status-read w sw) ∙ e
 
     query-answered : A (command c b auth sig w)
-    unfolding command judge judgeForm okStatus wrongStatus
+    unfolding judge judgeForm okStatus wrongStatus
     query-answered =
-        split A (not (good c)) (λ _. edge-word 1)
-        (λ g. split A (shortBuffer w) (λ _. edge-word 2)
-        (λ _. split A (badCertificate auth || badCertificate sig) (λ _. edge-word 3)
-        (λ _. split A (jobWaits c) (λ _. edge-word 4)
-        (λ _.
+        command-walk A c b auth sig w edge-word
+        (λ g _ _.
         let t = codeOf (c .codes) (h .p2) .tries in
-        let low : t ≤ 3 = code-tries (h .p2) _ (good-code (c .codes) (good-codes c (not-false _ g)) (h .p2) (omega (arith, second-parameter))) in
+        let low : t ≤ 3 = code-tries (h .p2) _ (good-code (c .codes) (good-codes c g) (h .p2) (omega (arith, second-parameter))) in
         rw (p, plainly-judged (dataOf b start h))
         (queried-walk (λ o. A (answered w c (inCodes (dropBoth (c .session)) o))) (c .codes) (h .p2)
         (λ _. word-told 0x6983 refl)
         (λ _ _. word-told 0x9000 refl)
-        (λ _ _. word-told (0x63C0 + t) (simp (wrong-status t (omega arith), or-true))))))))
-
-  asked : (t : Header → Bool) → isCommand t x ≡ t h
-  unfolding sentBy formSends readOff
-  asked t = rw p
+        (λ _ _. word-told (0x63C0 + t) (simp (wrong-status t (omega arith), or-true)))))
 
   -- a test that a query does not pass adds nothing
   adds-nothing : (t : Exchange → Bool) → t (exchange c x) ≡ false → (calls : List Call)
@@ -237,14 +230,17 @@ module _ (c : Card) (b auth sig w : Bytes) (h : Header) (start : ℕ) (p : parse
 
   uncounted : Uncounted c x
   unfolding step
-  uncounted = record {
-    codes = gives .codes;
-    wrong = λ k. adds-nothing (wrongAnswer k) (rw (asked (presents k), presents-nothing h q k, and-false));
-    restored = λ k. adds-nothing (restoration k) (rw (asked (presents k), presents-nothing h q k, and-false));
-    unblocked = λ k. adds-nothing (unblocking k) (rw (asked (unblocks k), unblocks-nothing h q k, and-false));
-    presented = adds-nothing (rightVerify PIN2) (rw (asked (verifies PIN2), verifies-nothing h q PIN2, and-false));
-    signed = adds-nothing handsSignature (rw (gives .kind));
-  }
+  uncounted =
+      let tested = asked b auth sig w p in
+      let presented-none = presents-nothing h (ins h q) (no-data h q) in
+      record {
+        codes = gives .codes;
+        wrong = λ k. adds-nothing (wrongAnswer k) (rw (tested (presents k), presented-none k, and-false));
+        restored = λ k. adds-nothing (restoration k) (rw (tested (presents k), presented-none k, and-false));
+        unblocked = λ k. adds-nothing (unblocking k) (rw (tested (unblocks k), unblocks-nothing h (ins h q) (no-data h q) k, and-false));
+        presented = adds-nothing (rightVerify PIN2) (rw (tested (verifies PIN2), verifies-nothing h (ins h q) (no-data h q) PIN2, and-false));
+        signed = adds-nothing handsSignature (rw (gives .kind));
+      }
 
   -- the row of the sheet for code k
   module _ (k : ℕ) (few : k < 3) where
@@ -252,12 +248,13 @@ module _ (c : Card) (b auth sig w : Bytes) (h : Header) (start : ℕ) (p : parse
     E = exchangeOf x (command c b auth sig w)
 
     about : (st : ℕ → Bool) → answers st (asksAbout k) E ≡ true → h .p2 ≡ k
-    about st e = eqb-true (h .p2) k (and-right (queries h) _ (sym (asked (asksAbout k)) ∙ and-right (st (statusWord E)) _ e))
+    about st e = eqb-true (h .p2) k (and-right (queries h) _ (sym (asked b auth sig w p (asksAbout k)) ∙ and-right (st (statusWord E)) _ e))
 
     asked-row : Asked k c x (command c b auth sig w)
     asked-row = record {
       codes = λ _. gives .codes;
-      answered = λ e. query-answered k few (sym (asked (asksPlainly k)) ∙ e);
+      noJob = λ _. gives .kind;
+      answered = λ e. query-answered k few (sym (asked b auth sig w p (asksPlainly k)) ∙ e);
       verified = λ e. rw (← about okStatus e) (gives .told .verified (and-left _ _ e));
       unverified = λ e. rw (← about wrongStatus e) (gives .told .unverified (and-left _ _ e));
       left = λ e. rw (← about wrongStatus e) (gives .told .left (and-left _ _ e));
@@ -269,6 +266,7 @@ module _ (c : Card) (b auth sig w : Bytes) (h : Header) (start : ℕ) (p : parse
 unasked : (k : ℕ) (c : Card) (y : Call) (o : Result) → isCommand queries y ≡ false → isCommand (asksAbout k) y ≡ false → isCommand (asksPlainly k) y ≡ false → Asked k c y o
 unasked k c y o none-at-all none not-plain = record {
   codes = never none-at-all;
+  noJob = never none-at-all;
   answered = never not-plain;
   verified = never (rw (none, and-false));
   unverified = never (rw (none, and-false));

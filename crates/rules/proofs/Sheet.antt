@@ -37,8 +37,7 @@ use Rattle.rules.specs.Judgement.{commands, instruction, parameters, has
 use Rattle.rules.specs.Judgement.{knownClass, knownInstruction, badChaining, judgeNamed, judgeHeader, judgeForm}
 use Rattle.rules.specs.Judgement.{judge}
 use Rattle.rules.specs.Delivery.{deliver}
-use Rattle.rules.specs.Edge.{Result, refuse, written, cardAfter, answered, shortBuffer, badCertificate, jobWaits}
-use Rattle.rules.specs.Edge.{command, delivery, powerReset}
+use Rattle.rules.specs.Edge.{Result, refuse, written, cardAfter, answered, command, delivery, powerReset}
 use Rattle.rules.specs.Counting.{Call, Command, Delivery, PowerReset, Exchange, step, exchangeOf, statusWord}
 use Rattle.rules.specs.Counting.{returnedStatus, returnedKind, formSends, sentBy, readOff, dataSent, isCommand}
 use Rattle.rules.specs.Counting.{okStatus, wrongStatus, verifies, changes, presentsPuk, unblocks, presents}
@@ -52,9 +51,10 @@ use Rattle.rules.proofs.Parts.{code-same, code-other}
 use Rattle.rules.proofs.Walks.{give-walk, select-walk, readRecord-walk, readBinary-walk, getResponse-walk}
 use Rattle.rules.proofs.Walks.{setEnvironment-walk, chooseKey-walk, authenticate-walk, sign-walk, decipher-walk}
 use Rattle.rules.proofs.Walks.{verdict-walk, queried-walk, verify-walk, replaced-walk, verifiedPuk-walk, resetRetry-walk}
-use Rattle.rules.proofs.Forms.{refusal-6700}
+use Rattle.rules.proofs.Walks.{command-walk, delivery-walk}
+use Rattle.rules.proofs.Forms.{refusal-6700, asked}
 use Rattle.rules.proofs.Keeping.{Found, is, nothing, found, verify-code, change-code, reset-code}
-use Rattle.rules.proofs.Queries.{asked-about}
+use Rattle.rules.proofs.Queries.{verifies-nothing, presents-nothing, unblocks-nothing, asked-about}
 
 -- An exchange that neither opens, closes, judges, stores nor unblocks code k, and hands out no signature.
 record Silent (k : ℕ) (e : Exchange) : Type 0 where
@@ -296,10 +296,6 @@ module _ (k : ℕ) (h3 : k < 3) (c : Card) (g : goodCodes (c .codes) ≡ true) (
   abbrev C : List Code → Card
   C codes = record { codes = codes; profile = c .profile; session = dropBoth (c .session) }
 
-  asked : (t : Header → Bool) → isCommand t x ≡ t h
-  unfolding sentBy formSends readOff
-  asked t = rw p
-
   data-sent : dataSent x ≡ d
   unfolding sentBy formSends readOff
   data-sent = rw p
@@ -311,7 +307,7 @@ module _ (k : ℕ) (h3 : k < 3) (c : Card) (g : goodCodes (c .codes) ≡ true) (
   -- the tests of an exchange that a status word ended, by the header
   by-header : (codes : List Code) (sw : ℕ) (st : ℕ → Bool) (t : Header → Bool)
       → (st (statusWord (E k c x w (C codes) sw)) && isCommand t x) ≡ (st sw && t h)
-  by-header codes sw st t = rw (told k c x w (C codes) sw, asked t)
+  by-header codes sw st t = rw (told k c x w (C codes) sw, asked b auth sig w p t)
 
   -- 9000
   accepted : (codes : List Code)
@@ -433,21 +429,14 @@ module _ (k : ℕ) (h3 : k < 3) (c : Card) (g : goodCodes (c .codes) ≡ true) (
 
   -- 20 VERIFY without data
   module _ (i : h .ins ≡ 0x20) (few : h .p2 < 3) (no-data : h .lc ≡ 0) where
-    query-tests : (j : ℕ) → verifies j h ≡ false
-    unfolding verifies
-    query-tests j = rw (no-data, and-false)
-
-    query-presents : (j : ℕ) → presents j h ≡ false
-    query-presents j = presents-no j h (query-tests j) (changes-no j h (rw i)) (rw (presentsPuk-no j h (rw i), and-false))
-
     query-sheet : T (queried cs (h .p2))
     unfolding okStatus wrongStatus
     query-sheet =
         let t = codeOf cs (h .p2) .tries in
         let few-tries : t ≤ 15 = omega (arith, code-tries (h .p2) (codeOf cs (h .p2)) (good-code cs g (h .p2) few)) in
-        let none-k : presents k h ≡ false = query-presents k in
+        let none-k : presents k h ≡ false = presents-nothing h i no-data k in
         queried-walk T cs (h .p2) (λ _. turned-down 0x6983 refl refl)
-        (λ _ _. untouched cs refl (query-tests k) (changes-no k h (rw i)) (unblocks-no k h (rw i)) none-k (rw (i, and-false)) (never (rw i)))
+        (λ _ _. untouched cs refl (verifies-nothing h i no-data k) (changes-no k h (rw i)) (unblocks-nothing h i no-data k) none-k (rw (i, and-false)) (never (rw i)))
         (λ _ _. mistaken cs t few-tries (rw none-k) (rw none-k) refl (never none-k) (never none-k) (never none-k))
 
   -- 20 VERIFY with data
@@ -672,13 +661,13 @@ module _ (k : ℕ) (h3 : k < 3) (c : Card) (g : goodCodes (c .codes) ≡ true) (
   session-sheet v n u o none =
       let c′ : Card = cardAfter c (inSession cs o) in
       other-call k c x w c′ (o .answer) refl
-      (asked (verifies k) ∙ verifies-no k h v)
-      (asked (changes k) ∙ changes-no k h n)
-      (asked (presents k) ∙ presents-no k h (verifies-no k h v) (changes-no k h n) (rw (presentsPuk-no k h u, and-false)))
-      (asked (unblocks k) ∙ unblocks-no k h u)
-      (asked anyUnblocks ∙ u)
-      (asked byVerifiedPuk ∙ rw u)
-      (asked (storesPin k) ∙ rw (unblocks-no k h u))
+      (asked b auth sig w p (verifies k) ∙ verifies-no k h v)
+      (asked b auth sig w p (changes k) ∙ changes-no k h n)
+      (asked b auth sig w p (presents k) ∙ presents-no k h (verifies-no k h v) (changes-no k h n) (rw (presentsPuk-no k h u, and-false)))
+      (asked b auth sig w p (unblocks k) ∙ unblocks-no k h u)
+      (asked b auth sig w p anyUnblocks ∙ u)
+      (asked b auth sig w p byVerifiedPuk ∙ rw u)
+      (asked b auth sig w p (storesPin k) ∙ rw (unblocks-no k h u))
       (rw (kind-written w c′ (o .answer), none .unsigned))
       (λ e. none .verified (simp (kind-written w c′ (o .answer), and-true) at e))
 
@@ -740,26 +729,20 @@ module _ (k : ℕ) (h3 : k < 3) (c : Card) (b auth sig w : Bytes) where
   form-sheet g (form h start) p = header-sheet k h3 c (good-codes c g) b auth sig w h start p
 
   command-sheet : Sheet k c (Command b auth sig w) (command c b auth sig w)
-  unfolding command judge
+  unfolding judge
   command-sheet =
-      let S : Result → Type 0 = Sheet k c (Command b auth sig w) in
-      split S (not (good c)) (λ _. edge-refusal k c (Command b auth sig w) w 1)
-      (λ g. split S (shortBuffer w) (λ _. edge-refusal k c (Command b auth sig w) w 2)
-      (λ _. split S (badCertificate auth || badCertificate sig) (λ _. edge-refusal k c (Command b auth sig w) w 3)
-      (λ _. split S (jobWaits c) (λ _. edge-refusal k c (Command b auth sig w) w 4)
-      (λ _. form-sheet (not-false _ g) (parse b) refl))))
+      let x : Call = Command b auth sig w in
+      command-walk (Sheet k c x) c b auth sig w (edge-refusal k c x w) (λ g _ _. form-sheet g (parse b) refl)
 
 -- A delivery.
 delivery-sheet : (k : ℕ) (c : Card) (r w : Bytes) → Sheet k c (Delivery r w) (delivery c r w)
-unfolding delivery sentBy readOff
+unfolding sentBy readOff
 delivery-sheet k c r w =
-    let S : Result → Type 0 = Sheet k c (Delivery r w) in
+    let x : Call = Delivery r w in
     let o : SessionStep = deliver (c .session) r in
-    split S (not (good c)) (λ _. edge-refusal k c (Delivery r w) w 1)
-    (λ _. split S (shortBuffer w) (λ _. edge-refusal k c (Delivery r w) w 2)
-    (λ _. split S (not (jobWaits c)) (λ _. edge-refusal k c (Delivery r w) w 5)
-    (λ _. other-call k c (Delivery r w) w (cardAfter c (inSession (c .codes) o)) (o .answer) refl refl refl refl refl refl refl refl
-    (simp and-false) (never (simp and-false)))))
+    delivery-walk (Sheet k c x) c r w (edge-refusal k c x w)
+    (λ _ _. other-call k c x w (cardAfter c (inSession (c .codes) o)) (o .answer) refl refl refl refl refl refl refl refl
+    (simp and-false) (never (simp and-false)))
 
 -- A power reset closes each code and changes nothing else of it.
 module _ (cs : List Code) (g : goodCodes cs ≡ true) where

@@ -1,4 +1,5 @@
--- Each command's tests, walked once: what holds of every way out holds of the command. The code sheet and the good-state proofs use them.
+-- Each command's tests, and the edge's, walked once: what holds of every way out holds of the command or call. The code sheet and the
+-- good-state proofs use them.
 use mathlib.Core.Path.{_≡_, refl}
 use mathlib.Core.Bool.{Bool, true, false, not, _&&_, _||_}
 use mathlib.Core.List.{List, [], _∷_, _++_}
@@ -10,6 +11,7 @@ use borrow.Author.Tests.{eqb-true, eqb-false, leb-false, ltb-false, not-false}
 use Rattle.octets.specs.Octets.{Bytes, byteAt, word, same, member}
 use Rattle.octets.proofs.Tests.{split, and-right}
 use Rattle.pkcs1.specs.Pkcs1.{padded, strip}
+use Rattle.rules.specs.declared.Card.{Card}
 use Rattle.rules.specs.declared.Code.{Code}
 use Rattle.rules.specs.declared.CodeStep.{CodeStep}
 use Rattle.rules.specs.declared.Header.{Header}
@@ -33,7 +35,10 @@ use Rattle.rules.specs.CodeCommands.{unblockByVerifiedPuk, unblockByPres
 use Rattle.rules.specs.Digests.{isDigest}
 use Rattle.rules.specs.KeyCommands.{swWithoutPin, setEnvironment, kindChosen, choosing, namesKey, chooseKey, jobKey}
 use Rattle.rules.specs.KeyCommands.{internalAuthenticate, sign, decipher}
+use Rattle.rules.specs.State.{good}
+use Rattle.rules.specs.Judgement.{judge}
 use Rattle.rules.specs.Delivery.{deliver}
+use Rattle.rules.specs.Edge.{Result, refuse, answered, shortBuffer, badCertificate, jobWaits, command, delivery}
 
 -- The commands that change nothing but the session.
 module _ (P : SessionStep → Type 0) (s : Session) where
@@ -239,3 +244,25 @@ resetRetry-walk P codes h d none verified presented =
     split P (not (eqb (codeOf codes (h .p2) .tries) 0)) (λ _. none)
     (λ z. let blocked : codeOf codes (h .p2) .tries ≡ 0 = eqb-true _ _ (not-false _ z) in
     split P (eqb (h .p1) 0x03) (λ e. verified blocked (eqb-true _ _ e)) (presented blocked))
+
+-- The edge of a command, and of a delivery.
+pub command-walk : (P : Result → Type 0) (c : Card) (apdu authentication signature buffer : Bytes)
+    → ((n : ℕ) → P (refuse c buffer n))
+    → (good c ≡ true → shortBuffer buffer ≡ false → jobWaits c ≡ false → P (answered buffer c (judge c apdu authentication signature)))
+    → P (command c apdu authentication signature buffer)
+unfolding command
+command-walk P c apdu authentication signature buffer refused done =
+    split P (not (good c)) (λ _. refused 1)
+    (λ g. split P (shortBuffer buffer) (λ _. refused 2)
+    (λ room. split P (badCertificate authentication || badCertificate signature) (λ _. refused 3)
+    (λ _. split P (jobWaits c) (λ _. refused 4) (λ idle. done (not-false _ g) room idle))))
+
+pub delivery-walk : (P : Result → Type 0) (c : Card) (result buffer : Bytes)
+    → ((n : ℕ) → P (refuse c buffer n))
+    → (good c ≡ true → shortBuffer buffer ≡ false → P (answered buffer c (inSession (c .codes) (deliver (c .session) result))))
+    → P (delivery c result buffer)
+unfolding delivery
+delivery-walk P c result buffer refused done =
+    split P (not (good c)) (λ _. refused 1)
+    (λ g. split P (shortBuffer buffer) (λ _. refused 2)
+    (λ room. split P (not (jobWaits c)) (λ _. refused 5) (λ _. done (not-false _ g) room)))

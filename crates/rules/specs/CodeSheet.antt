@@ -1,5 +1,5 @@
 -- What opens and closes a code, what moves its retry counter, and what stores a value: the code after any call, in terms of the code
--- before it, the call's bytes and its answer. One sheet for the three codes.
+-- before it, the call's bytes and its answer; and what a query is told of it. One sheet for the three codes.
 use Prim.Native.Nat.{ℕ, _+_, _-_, _≤_, _<_}
 use mathlib.Core.Path.{_≡_}
 use mathlib.Core.Bool.{Bool, true, false, cond, not, _&&_, _||_}
@@ -14,7 +14,7 @@ use Rattle.rules.specs.Numbers.{kindNumber, Returned, edge, responded, h
 use Rattle.rules.specs.Codes.{PUK, PIN1, PIN2, fullTries, value, codeOf}
 use Rattle.rules.specs.Edge.{Result}
 use Rattle.rules.specs.Counting.{Call, Exchange, step, exchangeOf, statusWord, sentBy, readOff, dataSent, okStatus}
-use Rattle.rules.specs.Counting.{wrongStatus, isCommand, queries, changes, unblocks, presentsPuk, answers}
+use Rattle.rules.specs.Counting.{returnedKind, wrongStatus, isCommand, queries, changes, unblocks, presentsPuk, answers}
 use Rattle.rules.specs.Counting.{wrongAnswer, restoration, unblocking, rightVerify, handsJob, handsSignature}
 
 -- 9000 to a CHANGE of code k.
@@ -107,13 +107,15 @@ pub record Sheet (k : ℕ) (c : Card) (x : Call) (o : Result) : Type 0 where
   pub pin1Used : handsPin1Job (exchangeOf x o) ≡ true → codeOf (c .codes) PIN1 .verified ≡ true
   pub signed : handsSignature (exchangeOf x o) ≡ true → codeOf (c .codes) PIN2 .verified ≡ true
 
--- A VERIFY without data that asks about code k; one that steps 2 to 6 pass. 6983.
+-- A VERIFY without data that asks about code k.
 abbrev pub asksAbout : ℕ → Header → Bool
 asksAbout k h = queries h && eqb (h .p2) k
 
+-- One that steps 2 to 6 let pass: class 00h and P1 00.
 abbrev pub asksPlainly : ℕ → Header → Bool
 asksPlainly k h = asksAbout k h && eqb (h .cla) 0x00 && eqb (h .p1) 0x00
 
+-- 6983: no tries are left.
 abbrev pub blockedStatus : ℕ → Bool
 blockedStatus sw = eqb sw 0x6983
 
@@ -125,7 +127,8 @@ queryStatus sw = eqb sw 0 || okStatus sw || wrongStatus sw || blockedStatus sw
 -- many tries it has left.
 pub record Asked (k : ℕ) (c : Card) (x : Call) (o : Result) : Type 0 where
   pub codes : isCommand queries x ≡ true → o .card .codes ≡ c .codes
-  -- where the edge does not refuse it, the answer is 9000, 63Cx or 6983
+  -- it hands out no job; where the edge does not refuse it, the answer is 9000, 63Cx or 6983
+  pub noJob : isCommand queries x ≡ true → returnedKind (o .returned) ≡ 0
   pub answered : isCommand (asksPlainly k) x ≡ true → queryStatus (statusWord (exchangeOf x o)) ≡ true
   -- 9000: verified
   pub verified : answers okStatus (asksAbout k) (exchangeOf x o) ≡ true → codeOf (c .codes) k .verified ≡ true
