@@ -87,8 +87,9 @@ pub fn measure(goals: &mut Goals) {
     stripping.add("strip a block that begins with 00 01 (refused)".to_string(), strip_times(&padded()));
     println!();
     paragraph(
-        "The numbers are message bytes. From run to run these ratios differ by up to a tenth, from build to build too, by
-        where the linker puts the code, and from machine to machine by up to a third.",
+        "The numbers are message bytes. From run to run these ratios differ by a tenth and more, from build to build too, by
+        where the linker puts the code, and from machine to machine by up to a third; those of calls that take under 3
+        nanoseconds by up to a half.",
     );
     padding.judge(goals, "Padding", PADDING_SLOWER);
     stripping.judge(goals, "Stripping", "");

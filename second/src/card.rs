@@ -143,10 +143,7 @@ fn execute(card: &mut CardState, request: Request, certificates: Certificates) -
             let record = read_record(card, number as usize)?;
             by_le(card, &record, le)
         }
-        Request::ReadBinary { offset, le } => {
-            let part = read_binary(card, certificates, offset, le)?;
-            Ok(Reply::Data(part.to_vec(), status::OK))
-        }
+        Request::ReadBinary { offset, le } => read_binary(card, certificates, offset, le),
         // Wish 1: "9000 if verified, 6983 if no tries are left, else 63Cx, and no code
         // changes", and "6983 stays the first of the command's own rules".
         Request::AskCode { code } => match card.codes[code] {
@@ -239,8 +236,9 @@ fn read_record(card: &CardState, number: usize) -> Result<Vec<u8>, u16> {
 }
 
 /// "No file 6986; record file 6981; offset at or past the size 6B00. Gives the
-/// smaller of Le and what remains, 9000."
-fn read_binary<'a>(card: &CardState, certificates: Certificates<'a>, offset: usize, le: usize) -> Result<&'a [u8], u16> {
+/// smaller of Le and what remains, 9000." Wish 2: "With Le from 1 to 255 greater
+/// than what remains, READ BINARY gives what remains and 6282. Le 00 keeps 9000."
+fn read_binary(card: &CardState, certificates: Certificates, offset: usize, le: usize) -> Judged {
     let certificate = match card.file.ok_or(status::NO_CURRENT_FILE)? {
         File::AuthenticationCertificate => certificates.authentication,
         File::SignatureCertificate => certificates.signature,
@@ -250,7 +248,11 @@ fn read_binary<'a>(card: &CardState, certificates: Certificates<'a>, offset: usi
         return Err(status::BAD_OFFSET);
     }
     let rest = &certificate[offset..];
-    Ok(&rest[..rest.len().min(le)])
+    if le <= 255 && le > rest.len() {
+        return Ok(Reply::Data(rest.to_vec(), status::END_OF_FILE));
+    }
+    let part = &rest[..rest.len().min(le)];
+    Ok(Reply::Data(part.to_vec(), status::OK))
 }
 
 /// "Nothing held 6985. Gives the smaller of Le and held; 9000, or 61 and the rest."

@@ -52,6 +52,8 @@ impl Random {
 pub trait Played: Clone {
     fn play(&mut self, line: &[u8]);
     fn card(&self) -> &CardState;
+    /// The length of the current file, if it is a certificate.
+    fn certificate_length(&self) -> Option<usize>;
     /// Whether the line that leads to `after` is not to be given out.
     fn holds_back(generator: &Generator<Self>, after: &Self) -> bool;
     fn malformed(random: &mut Random) -> Vec<u8>;
@@ -298,16 +300,26 @@ impl<S: Played> Generator<S> {
     /// Into EEEEh, to one of its files, and reads there.
     pub(crate) fn browse(&mut self) {
         let id = self.random.pick(&[0x5044u16, 0x0033, 0xAACE, 0xAACE, 0xDDCE, 0xDDCE]);
-        self.send(0x00, 0xA4, 0x00, 0x0C, &[], None);
-        self.send(0x00, 0xA4, 0x01, 0x0C, &[0xEE, 0xEE], None);
-        self.send(0x00, 0xA4, 0x02, 0x0C, &id.to_be_bytes(), None);
+        self.choose_file(id.to_be_bytes());
         for _ in 0..self.random.between(1, 4) {
             S::read(self);
         }
     }
 
-    /// Takes what is held in pieces.
+    /// A file of EEEEh.
+    pub(crate) fn choose_file(&mut self, file: [u8; 2]) {
+        self.send(0x00, 0xA4, 0x00, 0x0C, &[], None);
+        self.send(0x00, 0xA4, 0x01, 0x0C, &[0xEE, 0xEE], None);
+        self.send(0x00, 0xA4, 0x02, 0x0C, &file, None);
+    }
+
+    /// Takes what is held in pieces; sometimes a read of a certificate drops it before.
     pub(crate) fn get_responses(&mut self) {
+        let in_certificate = self.session.certificate_length().is_some();
+        if in_certificate && self.session.card().held.length > 0 && self.random.percent(15) {
+            self.read_over_end();
+            self.send(0x00, 0xC0, 0x00, 0x00, &[], Some(0));
+        }
         for _ in 0..6 {
             let held = self.session.card().held.length;
             if held == 0 && !self.random.percent(10) {
@@ -415,6 +427,9 @@ impl<S: Played> Generator<S> {
             let mut class = if place + 1 < parts.len() { 0x10 } else { 0x00 };
             if self.random.percent(6) {
                 class ^= 0x10;
+            }
+            if place > 0 && self.random.percent(6) {
+                self.read_over_end();
             }
             let le = self.maybe_le();
             self.send(class, 0x2A, 0x80, 0x86, &data, le);

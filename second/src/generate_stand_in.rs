@@ -47,6 +47,10 @@ impl Played for PlayedStandIn {
         self.stand_in.card()
     }
 
+    fn certificate_length(&self) -> Option<usize> {
+        self.stand_in.current_certificate().map(<[u8]>::len)
+    }
+
     fn holds_back(generator: &Generator<Self>, after: &Self) -> bool {
         let has_tries = |played: &Self| played.card().codes[PUK].tries > 0;
         after.spares_puk && has_tries(&generator.session) && !has_tries(after)
@@ -92,13 +96,8 @@ impl Played for PlayedStandIn {
     }
 
     fn read(generator: &mut Generator<Self>) {
-        let stand_in = &generator.session.stand_in;
-        let certificate = match stand_in.card().file {
-            Some(File::AuthenticationCertificate) => Some(stand_in.authentication().len()),
-            Some(File::SignatureCertificate) => Some(stand_in.signature().len()),
-            _ => None,
-        };
-        match certificate {
+        match generator.session.certificate_length() {
+            Some(length) if generator.random.percent(30) => generator.read_near_end(length),
             Some(length) if !generator.random.percent(8) => generator.read_part(length),
             None if generator.random.percent(8) => generator.read_part(LONGEST_CERTIFICATE),
             _ => generator.read_record(),
@@ -231,7 +230,7 @@ impl Generator<PlayedStandIn> {
     }
 
     fn step(&mut self) {
-        match self.random.below(100) {
+        match self.random.below(102) {
             0..=3 => self.malformed(),
             4 => self.line(b"P".to_vec()),
             5..=7 => self.noise(),
@@ -269,6 +268,8 @@ impl Generator<PlayedStandIn> {
             95 => self.edge_order(),
             96 => self.malformed_and_looked_for(),
             97 | 98 => self.longest_lines(),
+            99 => self.browse_in_blocks(),
+            100 => self.lend_and_read_in_blocks(),
             _ => self.plain_delivery(),
         }
     }
@@ -377,13 +378,6 @@ impl Generator<PlayedStandIn> {
         }
     }
 
-    /// A file of EEEEh.
-    fn choose_file(&mut self, file: [u8; 2]) {
-        self.send(0x00, 0xA4, 0x00, 0x0C, &[], None);
-        self.send(0x00, 0xA4, 0x01, 0x0C, &[0xEE, 0xEE], None);
-        self.send(0x00, 0xA4, 0x02, 0x0C, &file, None);
-    }
-
     /// A record of the current file, with a Le around its length.
     fn read_record(&mut self) {
         let card = self.session.card();
@@ -409,19 +403,7 @@ impl Generator<PlayedStandIn> {
         let near_end = length.saturating_sub(r.pick(&[0, 1, 2, 254, 255, 256, 257]));
         let offset = r.pick(&[0, 0, 1, 255, 256, inside, inside, inside, near_end, near_end, length + 1, outside, 0x7FFF, 0x8000]);
         let le = self.le_near(length.saturating_sub(offset));
-        let [p1, p2] = (offset as u16).to_be_bytes();
-        self.send(0x00, 0xB0, p1, p2, &[], le);
-    }
-
-    /// Mostly one less, the number itself or one more, where a Le can say it.
-    fn le_near(&mut self, n: usize) -> Option<u8> {
-        let r = &mut self.random;
-        let any = r.byte();
-        let near = match r.pick(&[n.saturating_sub(1), n, n + 1]) {
-            near @ 1..=256 => near as u8,
-            _ => any,
-        };
-        r.pick(&[Some(near), Some(near), Some(near), Some(0), Some(0), Some(1), Some(0xFF), Some(any), None])
+        self.read_binary(offset, le);
     }
 
     // Certificates
@@ -438,7 +420,7 @@ impl Generator<PlayedStandIn> {
 
     fn lend_good_as(&mut self, letter: u8) {
         let any = self.random.between(1, LONGEST_CERTIFICATE);
-        let length = self.random.pick(&[1, 1, 200, 255, 256, 257, 1535, 1536, 1536, any, any]);
+        let length = self.random.pick(&[1, 1, 2, 200, 254, 255, 256, 257, 400, 510, 1535, 1536, 1536, 1536, any, any, any]);
         self.lend(letter, length);
     }
 
@@ -448,8 +430,21 @@ impl Generator<PlayedStandIn> {
         self.read_certificate(letter);
     }
 
-    fn read_certificate(&mut self, letter: u8) {
+    fn lend_and_read_in_blocks(&mut self) {
+        let letter = self.random.pick(b"AS");
+        self.lend_good_as(letter);
+        self.choose_certificate(letter);
+        for _ in 0..self.random.between(1, 3) {
+            self.read_in_blocks();
+        }
+    }
+
+    fn choose_certificate(&mut self, letter: u8) {
         self.choose_file(if letter == b'A' { [0xAA, 0xCE] } else { [0xDD, 0xCE] });
+    }
+
+    fn read_certificate(&mut self, letter: u8) {
+        self.choose_certificate(letter);
         for _ in 0..self.random.between(1, 4) {
             PlayedStandIn::read(self);
         }

@@ -1,5 +1,6 @@
 //! What is a transcript's own in a generator of lines.
 
+use crate::card::LONGEST_CERTIFICATE;
 use crate::generate::{Generator, Played, Random};
 use crate::lines::LineProgram;
 use crate::state::{PIN1, PIN2, PUK};
@@ -16,10 +17,13 @@ pub struct PlayedTranscript {
 }
 
 impl Generator<PlayedTranscript> {
-    /// Seeds 3, 7, 11, ... may block PUK at any time; others only in the last tenth.
+    /// Certificates as long as the program's. Seeds 3, 7, 11, ... may block PUK at any time; others
+    /// only in the last tenth.
     pub fn new(seed: u64, total: usize) -> Self {
         let last_tenth = total - total / 10;
-        Self::on(PlayedTranscript { transcript: Transcript::sample(), last_tenth, spares_puk: seed % 4 != 3 }, seed)
+        let certificate = vec![0x30; LONGEST_CERTIFICATE];
+        let transcript = Transcript::new(certificate.clone(), certificate);
+        Self::on(PlayedTranscript { transcript, last_tenth, spares_puk: seed % 4 != 3 }, seed)
     }
 
     fn in_last_tenth(&self) -> bool {
@@ -37,6 +41,21 @@ impl Generator<PlayedTranscript> {
         }
         self.verify(PUK, 100);
     }
+
+    fn read_anywhere(&mut self) {
+        let le = self.maybe_le();
+        let any = self.random.below(1600);
+        let offset = self.random.pick(&[0, 1, 6, 7, 255, 256, 343, 344, 345, 599, 600, 1535, 1536, 0x7FFF, 0x8000, any, any, any]);
+        self.read_binary(offset, le);
+    }
+
+    fn read_record(&mut self) {
+        let le = self.maybe_le();
+        let record = self.random.pick(&[0, 1, 1, 2, 3, 4, 15, 16, 17, 255]);
+        let le = self.random.pick(&[le, Some(5), Some(6), Some(9), Some(10), Some(20), Some(21)]);
+        self.send(0x00, 0xB2, record, 0x04, &[], le);
+        self.get_responses();
+    }
 }
 
 impl Played for PlayedTranscript {
@@ -46,6 +65,10 @@ impl Played for PlayedTranscript {
 
     fn card(&self) -> &CardState {
         self.transcript.card()
+    }
+
+    fn certificate_length(&self) -> Option<usize> {
+        self.transcript.current_certificate().map(<[u8]>::len)
     }
 
     fn holds_back(generator: &Generator<Self>, after: &Self) -> bool {
@@ -88,25 +111,15 @@ impl Played for PlayedTranscript {
     }
 
     fn read(generator: &mut Generator<Self>) {
-        let le = generator.maybe_le();
-        match generator.random.below(2) {
-            0 => {
-                let any = generator.random.below(1600);
-                let offset = generator.random.pick(&[0, 1, 6, 7, 255, 256, 343, 344, 345, 599, 600, 1535, 1536, 0x7FFF, 0x8000, any, any, any]);
-                let [p1, p2] = (offset as u16).to_be_bytes();
-                generator.send(0x00, 0xB0, p1, p2, &[], le);
-            }
-            _ => {
-                let record = generator.random.pick(&[0, 1, 1, 2, 3, 4, 15, 16, 17, 255]);
-                let le = generator.random.pick(&[le, Some(5), Some(6), Some(9), Some(10), Some(20), Some(21)]);
-                generator.send(0x00, 0xB2, record, 0x04, &[], le);
-                generator.get_responses();
-            }
+        match generator.session.certificate_length() {
+            Some(length) if generator.random.percent(30) => generator.read_near_end(length),
+            _ if generator.random.percent(50) => generator.read_anywhere(),
+            _ => generator.read_record(),
         }
     }
 
     fn scenario(generator: &mut Generator<Self>) {
-        match generator.random.below(100) {
+        match generator.random.below(102) {
             0..=2 => generator.malformed(),
             3..=4 => generator.line(b"P".to_vec()),
             5..=8 => generator.noise(),
@@ -130,6 +143,7 @@ impl Played for PlayedTranscript {
             78..=84 => generator.authenticate(),
             85..=91 => generator.sign(),
             92..=98 => generator.decipher(),
+            99 | 100 => generator.browse_in_blocks(),
             _ => {
                 let n = generator.random.below(300);
                 let result = generator.random.bytes(n);

@@ -4,6 +4,7 @@ pub mod answers;
 pub mod apdu;
 pub mod card;
 pub mod generate;
+pub mod generate_reading;
 pub mod generate_stand_in;
 pub mod generate_transcript;
 pub mod hex;

@@ -1,6 +1,7 @@
 //! A card with what its calls are lent, and the lines P, C and D, which the
 //! transcript program and the stand-in program have in common.
 
+use crate::state::File;
 use crate::{command, delivery, hex, power_reset, CardState, Certificates, Outcome};
 
 #[derive(Clone)]
@@ -35,6 +36,15 @@ impl Session {
             Outcome::Job { kind, key } => Answer::Job { kind, key, block: &self.buffer[..256] },
             Outcome::Refused(number) => Answer::Refused(number),
         })
+    }
+
+    /// The current file, if it is a certificate.
+    pub fn current_certificate(&self) -> Option<&[u8]> {
+        match self.card.file? {
+            File::AuthenticationCertificate => Some(&self.authentication),
+            File::SignatureCertificate => Some(&self.signature),
+            _ => None,
+        }
     }
 
     fn reset(&mut self) -> Answer<'static> {

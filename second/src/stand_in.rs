@@ -27,6 +27,11 @@ impl StandIn {
         &self.session.card
     }
 
+    /// The current file, if it is a certificate.
+    pub fn current_certificate(&self) -> Option<&[u8]> {
+        self.session.current_certificate()
+    }
+
     pub fn authentication(&self) -> &[u8] {
         &self.session.authentication
     }

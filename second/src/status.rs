@@ -1,7 +1,8 @@
-//! Status words of document 01.
+//! Status words of document 01, and 6282 of document 02.
 
 pub const OK: u16 = 0x9000;
 pub const MORE_DATA: u16 = 0x6100;
+pub const END_OF_FILE: u16 = 0x6282;
 pub const WRONG_CODE: u16 = 0x63C0;
 pub const BAD_RESULT: u16 = 0x6400;
 pub const WRONG_LENGTH: u16 = 0x6700;

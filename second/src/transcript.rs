@@ -24,6 +24,11 @@ impl Transcript {
     pub fn card(&self) -> &CardState {
         &self.session.card
     }
+
+    /// The current file, if it is a certificate.
+    pub fn current_certificate(&self) -> Option<&[u8]> {
+        self.session.current_certificate()
+    }
 }
 
 impl LineProgram for Transcript {

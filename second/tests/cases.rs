@@ -1,5 +1,6 @@
-//! Document 01's cases P1 to P10 and its printed transcript.
+//! Document 01's cases P1 to P10 and its printed transcript; document 02's wishes.
 
+use second::generate::Random;
 use second::lines::{run, LineProgram};
 use second::transcript::Transcript;
 use second::{hex, padding};
@@ -169,5 +170,107 @@ fn verify_without_data_asks() {
         (wrong, "R63C2"), ("C00200001", "R63C2"), ("C0020000100", "R63C2"), ("C002000010431323334", "R9000"),
         ("C00200001", "R9000"), ("C00200002", "R63C3"), ("C00200000", "R63C3"), ("P", "P"), ("C00200001", "R63C3"),
         (wrong, "R63C2"), (wrong, "R63C1"), ("C00200001", "R63C1"), (wrong, "R63C0"), ("C00200001", "R6983"), (wrong, "R6983"),
+    ]);
+}
+
+/// A fresh card with a certificate of this length as its current file, and that certificate.
+fn at_certificate(file: &str, length: usize) -> (Transcript, Vec<u8>) {
+    let certificate = Random(length as u64).bytes(length);
+    let other = vec![0x5A; 1536];
+    let mut session = match file {
+        "AACE" => Transcript::new(certificate.clone(), other),
+        _ => Transcript::new(other, certificate.clone()),
+    };
+    for select in ["C00A4010C02EEEE".to_string(), format!("C00A4020C02{file}")] {
+        assert_eq!(session.line(select.as_bytes()), "R9000");
+    }
+    (session, certificate)
+}
+
+/// Data and status word.
+fn read_binary(session: &mut Transcript, offset: usize, le: usize) -> (Vec<u8>, String) {
+    let answer = session.line(format!("C00B0{offset:04X}{le:02X}").as_bytes());
+    let (data, word) = answer[1..].split_at(answer.len() - 5);
+    (hex::decode(data.as_bytes()).unwrap(), word.to_string())
+}
+
+/// At 0, n, 2n, .. until an answer is not 9000 with n bytes: all data, and the last status word.
+fn read_in_blocks(session: &mut Transcript, n: usize) -> (Vec<u8>, String) {
+    let mut read = Vec::new();
+    loop {
+        let (data, word) = read_binary(session, read.len(), n);
+        let whole = word == "9000" && data.len() == n;
+        read.extend(data);
+        if !whole {
+            return (read, word);
+        }
+    }
+}
+
+/// Document 02, wish 2. The signature certificate has 7 bytes.
+#[test]
+fn read_binary_says_when_the_file_ended() {
+    check(&[
+        ("C00A4010C02EEEE", "R9000"), ("C00A4020C02DDCE", "R9000"),
+        ("C00B0000006", "R300504035A5B9000"), ("C00B0000007", "R300504035A5B5C9000"), ("C00B0000008", "R300504035A5B5C6282"),
+        ("C00B00000FF", "R300504035A5B5C6282"), ("C00B0000000", "R300504035A5B5C9000"),
+        ("C00B0000601", "R5C9000"), ("C00B0000602", "R5C6282"), ("C00B00006FF", "R5C6282"), ("C00B0000600", "R5C9000"),
+        ("C00B0000700", "R6B00"), ("C00B0000701", "R6B00"), ("C00B00007FF", "R6B00"), ("C00B0000800", "R6B00"), ("C00B00008FF", "R6B00"),
+        ("C00B07FFFFF", "R6B00"), ("C00B00000", "R6700"), ("C00B08000FF", "R6A86"), ("C10B00000FF", "R6884"),
+    ]);
+}
+
+#[test]
+fn every_le_at_every_offset() {
+    let (mut session, certificate) = at_certificate("AACE", 300);
+    for offset in 0..300 {
+        let rest = &certificate[offset..];
+        for le in 0..=255 {
+            let (part, word) = match le {
+                0 if rest.len() > 256 => (&rest[..256], "9000"),
+                0 => (rest, "9000"),
+                _ if le <= rest.len() => (&rest[..le], "9000"),
+                _ => (rest, "6282"),
+            };
+            assert_eq!(read_binary(&mut session, offset, le), (part.to_vec(), word.to_string()), "{offset} {le}");
+        }
+    }
+    for (offset, le) in [300, 301, 0x7FFF].iter().flat_map(|offset| (0..=255).map(move |le| (*offset, le))) {
+        assert_eq!(read_binary(&mut session, offset, le), (vec![], "6B00".to_string()), "{offset} {le}");
+    }
+}
+
+#[test]
+fn a_reader_in_blocks_gets_the_certificate_and_stops() {
+    for length in [1, 2, 7, 199, 200, 201, 254, 255, 256, 257, 400, 510, 600, 1344, 1535, 1536] {
+        for file in ["AACE", "DDCE"] {
+            let (mut session, certificate) = at_certificate(file, length);
+            for n in 1..=255 {
+                let word = if length % n == 0 { "6B00" } else { "6282" };
+                assert_eq!(read_in_blocks(&mut session, n), (certificate.clone(), word.to_string()), "{file} {length} {n}");
+            }
+        }
+    }
+}
+
+/// As every other call, it drops the held answer and the chain, and it leaves the current file.
+#[test]
+fn a_read_over_the_end_drops_what_is_held() {
+    let result = format!("D{}", "5A".repeat(256));
+    let first = format!("C102A8086FF{}", "00".repeat(255));
+    let short = ("C00B00006FF", "R5C6282");
+    check(&[
+        ("C00A4010C02EEEE", "R9000"), ("C00A4020C02DDCE", "R9000"), ("C002000010431323334", "R9000"),
+        ("C008800000100", "J1 1100"), ("C00B00006FF", "H4"), (&result, "R6100"), short, ("C00C0000000", "R6985"),
+        (&first, "R9000"), short, ("C002A8086020000", "R6700"), short, ("C00200001", "R9000"),
+    ]);
+}
+
+#[test]
+fn other_commands_with_a_le_over_their_data_keep_9000() {
+    let record = "R800103900103830200009000";
+    check(&[
+        ("C00A4020C020016", "R9000"), ("C00B201040A", record), ("C00B201040B", record), ("C00B20104FF", record), ("C00B2010400", record),
+        ("C00B20104", "R610A"), ("C00C000000B", record), ("C00B20104", "R610A"), ("C00C00000FF", record),
     ]);
 }

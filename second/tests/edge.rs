@@ -129,3 +129,19 @@ fn bad_states() {
     card.job = Some(Job { kind: 2, key: 0x0100, le: Some(257) });
     assert!(!card.is_good());
 }
+
+#[test]
+fn a_read_over_the_end_writes_data_and_word_alone() {
+    let certificate: Vec<u8> = (0..254).collect();
+    let lent = Certificates { authentication: &certificate, signature: &[0x5A] };
+    for offset in [0, 1, 252, 253] {
+        let mut buffer = [0xEE; 300];
+        let mut card = load(&sample::image()).0;
+        (card.directory, card.file) = (Directory::Eeee, Some(File::AuthenticationCertificate));
+        let before = card.clone();
+        let rest = &certificate[offset..];
+        let expected = [rest, &[0x62, 0x82], &[0xEE; 300][rest.len() + 2..]].concat();
+        assert_eq!(command(&mut card, &[0x00, 0xB0, 0x00, offset as u8, 0xFF], lent, &mut buffer), Outcome::Response(rest.len() + 2));
+        assert_eq!((&buffer[..], &card), (&expected[..], &before));
+    }
+}

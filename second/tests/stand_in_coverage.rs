@@ -1,10 +1,12 @@
 //! Over a few fixed seeds the generator of stand-in lines reaches every answer, every shape of
-//! card, every length that matters, queries of each code in each of its states, and refusals in the
-//! midst of everything.
+//! card, every length that matters, queries of each code in each of its states, reads of both
+//! certificates over their ends, and refusals in the midst of everything.
 
 mod queries;
+mod reads;
 
 use queries::{queries_of_each_code, query, STATES};
+use reads::{dropped_at_end, ends_of_both_files, long_certificates, read, readings, readings_of_both_files, Read, Reading};
 use second::answers::{reached, wanted};
 use second::generate::{Generator, Random};
 use second::images::{cut_short, with_fault, Fault, Parts};
@@ -22,14 +24,17 @@ struct Step {
     answer: String,
     before: CardState,
     after: CardState,
+    read: Option<Read>,
 }
 
 fn play(seed: u64) -> Vec<Step> {
-    let mut stand_in = StandIn::sample();
+    let [authentication, signature] = long_certificates();
+    let mut stand_in = StandIn::new(authentication, signature);
     let step = |line: Vec<u8>| {
         let before = stand_in.card().clone();
         let answer = stand_in.line(&line);
-        Step { line, answer, before, after: stand_in.card().clone() }
+        let read = read(&line, &answer, before.file, stand_in.current_certificate());
+        Step { line, answer, before, after: stand_in.card().clone(), read }
     };
     Generator::for_stand_in(seed).take(LINES).map(step).collect()
 }
@@ -62,6 +67,28 @@ fn every_answer_occurs() {
 fn each_code_is_asked_about_in_each_state_and_at_the_edge() {
     let asked = |step: &Step| query(&step.line, &step.answer).into_iter().collect();
     check_all(count(asked), queries_of_each_code(&[&STATES[..], &["H1", "H2", "H3", "H4"]].concat()));
+}
+
+#[test]
+fn both_certificates_are_read_at_their_ends() {
+    let ends = count(|step| step.read.as_ref().map_or(vec![], Read::ends));
+    assert_eq!(ends.into_keys().collect::<BTreeSet<String>>(), ends_of_both_files());
+    let dropped = count(|step| dropped_at_end(&step.line, &step.answer, &step.before, &step.after));
+    assert_eq!(dropped.into_keys().collect::<Vec<&str>>(), ["chain", "held"]);
+}
+
+#[test]
+fn certificates_of_every_length_that_matters_are_read_in_blocks() {
+    let readings_of = |seed| readings(play(seed).iter().map(|step| step.read.as_ref()));
+    let readings: Vec<Reading> = (1..=SEEDS).flat_map(readings_of).collect();
+    let seen: BTreeSet<String> = readings.iter().filter_map(Reading::name).collect();
+    assert_eq!(seen, readings_of_both_files());
+    let whole: BTreeSet<usize> = readings.iter().filter(|reading| reading.offset == 0).map(|reading| reading.size).collect();
+    for size in [1, 2, 200, 254, 255, 256, 257, 400, 510, 1535, 1536] {
+        assert!(whole.contains(&size), "{size} in {whole:?}");
+    }
+    let blocks: BTreeSet<usize> = readings.iter().map(|reading| reading.block).collect();
+    assert!(blocks.contains(&1) && blocks.contains(&200) && blocks.contains(&255) && blocks.len() > 100, "{blocks:?}");
 }
 
 #[test]
@@ -145,7 +172,7 @@ fn certificates_and_buffers_have_every_length_that_matters() {
         _ => vec![],
     };
     let lengths = |letter: &'static str, list: &'static [usize]| list.iter().map(move |length| (letter.to_string(), *length));
-    let certificates = &[0, 1, 200, 255, 256, 257, 1535, 1536, 1537, 2047];
+    let certificates = &[0, 1, 2, 200, 254, 255, 256, 257, 400, 510, 1535, 1536, 1537, 2047];
     let buffers = &[0, 2, 255, 256, 257, 258, 259, 260, 4095, 4096];
     check_all(count(lent), lengths("A", certificates).chain(lengths("S", certificates)).chain(lengths("B", buffers)));
 }

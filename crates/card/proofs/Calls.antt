@@ -17,7 +17,7 @@ use Rattle.rules.specs.Judgement.{refusal, judgeHeader, judgeForm, judge}
 use Rattle.rules.specs.Delivery.{deliver}
 use Rattle.rules.specs.Edge.{Result, refuse, answered, badCertificate, jobWaits, command, delivery}
 use Rattle.rules.proofs.Parts.{good-session}
-use Rattle.rules.proofs.KeepingAnswers.{Fit, NoJob, OwnJob}
+use Rattle.rules.proofs.KeepingAnswers.{Fit, nothingMore, commandMayGive}
 use Rattle.rules.proofs.KeepingKeys.{deliver-keeps}
 use Rattle.rules.proofs.Keeping.{judge-keeps}
 use Rattle.answers.specs.Outputs.{outputOf, fits, writtenOr}
@@ -26,13 +26,13 @@ use Rattle.steps.specs.declared.StepOutput.{StepOutput}
 use Rattle.steps.specs.Steps.{stepOutputFor}
 
 -- An output has room for what a command or a delivery answers.
-own-fits : (s : Session) (d : Bytes) (a : Answer) → Fit (OwnJob s d) a → fits a ≡ true
+own-fits : (E : Bytes → Type 0) (s : Session) (d : Bytes) (a : Answer) → Fit (commandMayGive E s d) a → fits a ≡ true
 unfolding fits
-own-fits s d (response shown sw) f = le-leb (length shown) 256 (f .size)
-own-fits s d (job kind key block) f =
+own-fits E s d (response shown sw) f = le-leb (length shown) 256 (f .size)
+own-fits E s d (job kind key block) f =
     simp (le-leb (length block) 256 (omega (arith, f .size)), le-leb 1 kind (f .least), le-leb kind 3 (f .most))
 
-response-fits : (a : Answer) → Fit NoJob a → fits a ≡ true
+response-fits : (a : Answer) → Fit nothingMore a → fits a ≡ true
 unfolding fits
 response-fits (response d sw) f = le-leb (length d) 256 (f .size)
 response-fits (job kind key block) f = absurd f
@@ -89,7 +89,7 @@ module _ (c : Card) (b authentication signature : Bytes) where
               → step ≡ stepOutputFor (judge c b authentication signature) → outputWritten w c step ≡ called
           command-answered idle bytes e =
               let kept = judge-keeps c (not-false _ g) (eqb-true _ _ (not-false _ idle)) b authentication signature bytes in
-              step-written w c (judge c b authentication signature) room (own-fits _ _ _ (kept .answer)) e ∙ command-judged idle
+              step-written w c (judge c b authentication signature) room (own-fits _ _ _ _ (kept .answer)) e ∙ command-judged idle
 
 module _ (c : Card) (r w : Bytes) where
   pub delivery-bad : not (good c) ≡ true → refuse c w 1 ≡ delivery c r w

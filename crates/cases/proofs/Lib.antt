@@ -3,6 +3,7 @@ pub mod SecondCard
 pub mod StepCases
 pub mod PendingCases
 pub mod FileCases
+pub mod ReadingCases
 pub mod CodeCases
 pub mod UnblockingCases
 pub mod KeyCases

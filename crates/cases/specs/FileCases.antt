@@ -9,7 +9,7 @@ use Rattle.rules.specs.Sample.{sampleCard, references}
 use Rattle.rules.specs.Cases.{shows, buffer, sw, fresh}
 use Rattle.cases.specs.SecondCard.{secondCard, secondReferences, texts}
 use Rattle.cases.specs.Turns.{Run, Turn, _⇒_, from, Shown, tries, selectRoot, selectDirectory, selectFile}
-use Rattle.cases.specs.Turns.{recordRead, getResponse, sampleTries, at, counted}
+use Rattle.cases.specs.Turns.{withLe, recordRead, getResponse, sampleTries, at, counted}
 
 -- Records of 0016h: a PIN's and the PUK's.
 abbrev pub pinShows : ℕ → Bytes
@@ -157,7 +157,7 @@ files =
     }
     ∷ from (at 0xEEEE 0x0033 sampleCard) (readBinary 0x00 0x00 0x01 ⇒ sw 0x6981 ∷ []) fresh
     ∷ from (at 0xEEEE 0x5044 sampleCard) (readBinary 0x00 0x00 0x01 ⇒ sw 0x6981 ∷ []) fresh
-    -- B0: offset P1P2; the smaller of Le and what remains, nothing held; Le 00 means 256
+    -- B0: offset P1P2; Le at most what remains: Le bytes and 9000, nothing held; Le 00 means 256
     ∷ record {
       card = at 0xEEEE 0xAACE sampleCard;
       turns =
@@ -165,9 +165,7 @@ files =
           ∷ getResponse 0x00 ⇒ sw 0x6985
           ∷ readBinary 0x00 0xFF 0x03 ⇒ shows (0xA2 ∷ 0xA3 ∷ 0xA4 ∷ []) 0x9000
           ∷ readBinary 0x01 0x00 0x02 ⇒ shows (0xA3 ∷ 0xA4 ∷ []) 0x9000
-          ∷ readBinary 0x01 0x00 0xFF ⇒ shows (0xA3 ∷ 0xA4 ∷ replicate 42 0xA5) 0x9000
           ∷ readBinary 0x01 0x2A 0x02 ⇒ shows (0xA5 ∷ 0xA5 ∷ []) 0x9000
-          ∷ readBinary 0x01 0x2B 0x00 ⇒ shows (0xA5 ∷ []) 0x9000
           -- offset at or past the size 6B00; P1 under 80h
           ∷ readBinary 0x01 0x2C 0x00 ⇒ sw 0x6B00
           ∷ readBinary 0x7F 0xFF 0x00 ⇒ sw 0x6B00
@@ -175,12 +173,58 @@ files =
           ∷ [];
       codes = fresh;
     }
+    -- B0, Le 1 to 255 greater than what remains: what remains and 6282, nothing held, the selection stays; by one byte, by
+    -- many, and the last byte
+    ∷ record {
+      card = at 0xEEEE 0xAACE sampleCard;
+      turns =
+          readBinary 0x01 0x00 0xFF ⇒ shows (0xA3 ∷ 0xA4 ∷ replicate 42 0xA5) 0x6282
+          ∷ getResponse 0x00 ⇒ sw 0x6985
+          ∷ readBinary 0x01 0x29 0x04 ⇒ shows (0xA5 ∷ 0xA5 ∷ 0xA5 ∷ []) 0x6282
+          ∷ readBinary 0x01 0x29 0x03 ⇒ shows (0xA5 ∷ 0xA5 ∷ 0xA5 ∷ []) 0x9000
+          ∷ readBinary 0x01 0x29 0x02 ⇒ shows (0xA5 ∷ 0xA5 ∷ []) 0x9000
+          ∷ readBinary 0x01 0x2B 0x02 ⇒ shows (0xA5 ∷ []) 0x6282
+          ∷ readBinary 0x01 0x2B 0x01 ⇒ shows (0xA5 ∷ []) 0x9000
+          -- at the size there is nothing to come with 6282, nor past it
+          ∷ readBinary 0x01 0x2C 0x01 ⇒ sw 0x6B00
+          ∷ readBinary 0x01 0x2C 0xFF ⇒ sw 0x6B00
+          ∷ readBinary 0x01 0x2D 0x01 ⇒ sw 0x6B00
+          ∷ readBinary 0x7F 0xFF 0xFF ⇒ sw 0x6B00
+          ∷ [];
+      codes = fresh;
+    }
+    -- B0, Le FF: 256, 255 and 254 bytes remain
+    ∷ record {
+      card = at 0xEEEE 0xAACE secondCard;
+      turns =
+          readBinary 0x00 0x2C 0xFF ⇒ shows (replicate 211 0xA1 ++ 0xA2 ∷ 0xA3 ∷ 0xA4 ∷ replicate 41 0xA5) 0x9000
+          ∷ readBinary 0x00 0x2D 0xFF ⇒ shows (replicate 210 0xA1 ++ 0xA2 ∷ 0xA3 ∷ 0xA4 ∷ replicate 42 0xA5) 0x9000
+          ∷ readBinary 0x00 0x2E 0xFF ⇒ shows (replicate 209 0xA1 ++ 0xA2 ∷ 0xA3 ∷ 0xA4 ∷ replicate 42 0xA5) 0x6282
+          ∷ [];
+      codes = tries 3 2 1;
+    }
+    -- B0, Le 00 keeps 9000: 256, 255 bytes and one byte remain
+    ∷ record {
+      card = at 0xEEEE 0xAACE sampleCard;
+      turns =
+          readBinary 0x00 0x2C 0x00 ⇒ shows (replicate 211 0xA1 ++ 0xA2 ∷ 0xA3 ∷ 0xA4 ∷ replicate 42 0xA5) 0x9000
+          ∷ readBinary 0x00 0x2D 0x00 ⇒ shows (replicate 210 0xA1 ++ 0xA2 ∷ 0xA3 ∷ 0xA4 ∷ replicate 42 0xA5) 0x9000
+          ∷ readBinary 0x01 0x2B 0x00 ⇒ shows (0xA5 ∷ []) 0x9000
+          ∷ [];
+      codes = fresh;
+    }
+    -- B2, Le greater than the record: 9000
+    ∷ from (at 0x3F00 0x0016 sampleCard) (withLe 0xB2 0x03 0x04 0xFF ⇒ shows (pukShows 3) 0x9000 ∷ []) fresh
     -- B0 of DDCEh: the signature certificate, and its size
     ∷ record {
       card = at 0xEEEE 0xDDCE secondCard;
       turns =
           readBinary 0x00 0x00 0x00 ⇒ shows (0xB1 ∷ 0xB2 ∷ []) 0x9000
+          ∷ readBinary 0x00 0x00 0x02 ⇒ shows (0xB1 ∷ 0xB2 ∷ []) 0x9000
+          ∷ readBinary 0x00 0x00 0x03 ⇒ shows (0xB1 ∷ 0xB2 ∷ []) 0x6282
+          ∷ readBinary 0x00 0x00 0xFF ⇒ shows (0xB1 ∷ 0xB2 ∷ []) 0x6282
           ∷ readBinary 0x00 0x01 0x01 ⇒ shows (0xB2 ∷ []) 0x9000
+          ∷ readBinary 0x00 0x01 0x02 ⇒ shows (0xB2 ∷ []) 0x6282
           ∷ readBinary 0x00 0x02 0x01 ⇒ sw 0x6B00
           ∷ [];
       codes = tries 3 2 1;
@@ -190,6 +234,8 @@ files =
       card = at 0xEEEE 0xAACE sampleCard;
       turns =
           readGreat 0x05 0xFF 0x00 ⇒ shows (0xC1 ∷ []) 0x9000
+          ∷ readGreat 0x05 0xFF 0x01 ⇒ shows (0xC1 ∷ []) 0x9000
+          ∷ readGreat 0x05 0xFF 0xC8 ⇒ shows (0xC1 ∷ []) 0x6282
           ∷ readGreat 0x06 0x00 0x00 ⇒ sw 0x6B00
           ∷ [];
       codes = fresh;

@@ -86,6 +86,8 @@ dropping =
     ∷ []
     )
     ++ map (leftBy (pendingOn (sampleTries 3 0 3))) (verifyOf PIN1 pin1 ∷ sending 0x2C 0x00 PIN1 (puk ++ fives 4) ∷ [])
+    -- B0 of a certificate of one byte: 9000, 6282 and 6B00
+    ++ map (leftBy (at 0xEEEE 0xAACE pending)) (withLe 0xB0 0x00 0x00 0x01 ∷ withLe 0xB0 0x00 0x00 0x02 ∷ withLe 0xB0 0x00 0x01 0x01 ∷ [])
     -- jobs 1, 2 and 3
     ++ map (leftBy (pendingOn (sampleMarks true true true))) (sending 0x88 0x00 0x00 (0x41 ∷ []) ∷ signSha1 ∷ [])
     ++ leftBy (pendingOn (inEnvironment 6 (sampleMarks false true false))) (decipherPart 0x00 2)

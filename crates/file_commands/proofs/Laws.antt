@@ -3,13 +3,13 @@ use mathlib.Core.Path.{_≡_, refl, ap, _∙_}
 use mathlib.Core.Logic.{_≢_}
 use mathlib.Core.Bool.{Bool, true, false, not, cond, _&&_, _||_}
 use mathlib.Core.List.{List}
-use Prim.Native.Nat.{ℕ, _-_, _≤_, _<_}
-use lib.Dec.{eqb, leb}
-use lib.Seq.{take-take}
+use Prim.Native.Nat.{ℕ, _≤_, _<_}
+use lib.Dec.{eqb, leb, ltb}
+use lib.Seq.{take-take, take-all}
 use native.Mathlib.Omega.{arith}
-use lib.ListN.{length, take, drop, length-drop}
-use borrow.Author.Tests.{eq-eqb, ne-eqb, lt-ltb, le-ltb, le-leb, lt-leb, leb-true, leb-false, eqb-true}
-use Rattle.octets.proofs.Tests.{split, or-cases, neither}
+use lib.ListN.{length, take, drop, length-take, length-drop}
+use borrow.Author.Tests.{eq-eqb, ne-eqb, lt-ltb, le-ltb, le-leb, lt-leb, leb-true, leb-false, ltb-true, ltb-false, eqb-true}
+use Rattle.octets.proofs.Tests.{split, by-test, or-cases, neither}
 use Rattle.octets.proofs.Cutting.{uncut-first}
 use Rattle.octets.specs.Octets.{Bytes, byteAt, word, member}
 use Rattle.rules.specs.declared.Code.{Code}
@@ -18,9 +18,9 @@ use Rattle.rules.specs.declared.Session.{Session}
 use Rattle.rules.specs.declared.Header.{Header}
 use Rattle.rules.specs.Codes.{PUK, codeOf}
 use Rattle.rules.specs.Session.{root, esteidDirectory, noFile, heldBytes, withSelection, withHeld, dropHeld}
-use Rattle.rules.specs.Files.{filesIn, certificateFile, certificateOf, pukRecord, pinRecord, counterRecord, personalRecord, recordCount, recordOf}
+use Rattle.rules.specs.Files.{filesIn, certificateFile, pukRecord, pinRecord, counterRecord, personalRecord, recordCount, recordOf}
 use Rattle.rules.specs.Answers.{response, sessionStatus, moreBytes, give}
-use Rattle.rules.specs.FileCommands.{select, readRecord, readBinary, getResponse}
+use Rattle.rules.specs.FileCommands.{select, readRecord, readStatus, readBinary, getResponse}
 
 -- The current directory and file.
 abbrev directory : Session → ℕ
@@ -114,11 +114,23 @@ take-in-reach le d = split (λ n. take 256 (take le d) ≡ take n d) (leb le 256
     (λ e. uncut-first 256 le d (leb-true le 256 e))
     (λ e. take-take 256 le d (omega (arith, leb-false le 256 e)))
 
--- READ BINARY of one of two certificates.
-module _ (s : Session) (h : Header) (authentication signature : Bytes) where
-  abbrev shown : Bytes
-  shown = certificateOf (current s) authentication signature
+-- An Le over 256 is answered as 256 is.
+pub status-in-reach : (le remains : ℕ) → readStatus le remains ≡ readStatus (cond (leb le 256) le 256) remains
+unfolding readStatus
+status-in-reach le remains = split (λ n. readStatus le remains ≡ readStatus n remains) (leb le 256)
+    (λ e. refl)
+    (λ e. rw (lt-leb le 255 (omega (arith, leb-false le 256 e))))
 
+-- Whether fewer than Le bytes remain is seen by the part that is given.
+pub status-of-part : (le : ℕ) (d : Bytes) → readStatus le (length (take le d)) ≡ readStatus le (length d)
+unfolding readStatus
+status-of-part le d = by-test _ (ltb (length d) le)
+    (λ e. rw (take-all le d (omega (arith, ltb-true (length d) le e))))
+    (λ e. let whole : length (take le d) ≡ le = omega (arith, length-take le d, ltb-false (length d) le e) in
+    rw (whole, e, le-ltb le le (omega arith)))
+
+-- READ BINARY where no certificate file is selected.
+module _ (s : Session) (h : Header) (authentication signature : Bytes) where
   pub no-binary-file : current s ≡ noFile → sessionStatus s 0x6986 ≡ readBinary s h authentication signature
   unfolding readBinary
   no-binary-file e = simp (eq-eqb (current s) noFile e)
@@ -127,16 +139,6 @@ module _ (s : Session) (h : Header) (authentication signature : Bytes) where
     pub not-as-bytes : not (certificateFile (current s)) ≡ true → sessionStatus s 0x6981 ≡ readBinary s h authentication signature
     unfolding readBinary
     not-as-bytes e = simp (ne-eqb (current s) noFile some, e)
-
-    module _ (as-bytes : not (certificateFile (current s)) ≡ false) where
-      pub offset-past-end : length shown ≤ word (h .p1) (h .p2) → sessionStatus s 0x6B00 ≡ readBinary s h authentication signature
-      unfolding readBinary
-      offset-past-end e = simp (ne-eqb (current s) noFile some, as-bytes, le-leb (length shown) (word (h .p1) (h .p2)) e)
-
-      pub part-read : word (h .p1) (h .p2) < length shown
-          → record { session = s; answer = response (take (h .le) (drop (word (h .p1) (h .p2)) shown)) 0x9000 } ≡ readBinary s h authentication signature
-      unfolding readBinary
-      part-read e = simp (ne-eqb (current s) noFile some, as-bytes, lt-leb (length shown) (word (h .p1) (h .p2)) e)
 
 -- What is held, read by its length.
 pub held-shown : (s : Session) {n : ℕ} {d : Bytes} → n ≡ s .held .len → d ≡ take n (s .held .bytes) → d ≡ heldBytes s

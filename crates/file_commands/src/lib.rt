@@ -11,7 +11,7 @@ ghost use lib.ListN.{take};
 ghost use Rattle.octets.specs.Octets.{byteAt, word};
 ghost use Rattle.rules.specs.Files.{pukRecord, pinRecord, counterRecord, personalRecord, recordCount, recordOf};
 ghost use Rattle.rules.specs.Answers.{give};
-ghost use Rattle.rules.specs.FileCommands.{select, readRecord, readBinary, getResponse};
+ghost use Rattle.rules.specs.FileCommands.{select, readRecord, readStatus, readBinary, getResponse};
 ghost use Rattle.apdu.specs.Reach.{leInReach};
 ghost use Rattle.steps.specs.Steps.{sessionOutputFor};
 
@@ -148,6 +148,16 @@ pub fn read_record(codes: [Code; 3], profile: Profile, s: Session, h: Header) ->
     give_record(codes, profile, s, h.le, file, h.p1)
 }
 
+// The status word of READ BINARY by Le and how many bytes remain.
+fn read_status(le: usize, remains: usize) -> u16
+    ensures { λ r. ⌜ r ≡ readStatus le remains ⌝ }
+{
+    if (le <= 255) & (remains < le) {
+        return 0x6282;
+    }
+    0x9000
+}
+
 // B0 READ BINARY, of at most 256 bytes.
 pub fn read_binary<'a>(
     s: Session,
@@ -171,7 +181,9 @@ pub fn read_binary<'a>(
     }
     let le = numbers::wide16(h.le);
     let shown = files::certificate_part(authentication, signature, file, offset, le);
-    steps::session_data(s, shown, 0x9000)
+    // The part is shorter than Le exactly where fewer than Le bytes remain.
+    let word = read_status(le, shown.len());
+    steps::session_data(s, shown, word)
 }
 
 // C0 GET RESPONSE.

@@ -2,18 +2,16 @@
 use mathlib.Core.Path.{_≡_, refl, sym, ap, _∙_}
 use mathlib.Core.Bool.{true, false, not, _||_, or-true, false≢true}
 use mathlib.Core.List.{_∷_, _++_}
-use Prim.Native.Nat.{ℕ, _+_, _-_, _/_, _%_, _≤_}
-use native.Mathlib.Nat.{div-add-mod'}
+use Prim.Native.Nat.{ℕ, _+_, _-_, _≤_}
 use native.Mathlib.Omega.{arith}
 use lib.Dec.{eqb, ltb}
 use lib.ListN.{length, drop, length-append, length-drop}
-use lib.Seq.{drop-append-add, getD-append-add, getD-at}
-use borrow.Author.Tests.{eqb-true, eqb-false, ltb-true, ltb-false, lt-ltb, le-ltb, eq-eqb, ne-eqb, not-true, not-false}
-use Rattle.octets.specs.Octets.{Bytes, byteAt}
+use borrow.Author.Tests.{eqb-true, eqb-false, ltb-true, ltb-false, lt-ltb, le-ltb, le-leb, eq-eqb, ne-eqb, not-true, not-false}
+use Rattle.octets.specs.Octets.{Bytes}
 use Rattle.octets.proofs.Tests.{split, by-test, or-cases, neither}
 use Rattle.rules.specs.declared.Card.{Card}
 use Rattle.rules.specs.declared.Session.{Session}
-use Rattle.rules.specs.Numbers.{Returned, edge, responded, handedOut, refused}
+use Rattle.rules.specs.Numbers.{Returned, edge, responded, handedOut, LengthForm, form, refused}
 use Rattle.rules.specs.Apdu.{parse}
 use Rattle.rules.specs.State.{good}
 use Rattle.rules.specs.Answers.{Answer, response, job, inSession}
@@ -21,33 +19,17 @@ use Rattle.rules.specs.Judgement.{judgeForm, judge}
 use Rattle.rules.specs.Delivery.{deliver}
 use Rattle.rules.specs.Edge.{Result, refuse, responseIn, written, answered, shortBuffer, badCertificate, jobWaits}
 use Rattle.rules.specs.Edge.{command, delivery, powerReset}
-use Rattle.rules.specs.Counting.{Call, Command, Delivery, PowerReset, step, returnedStatus, sentBy, dataSent}
+use Rattle.rules.specs.Counting.{Call, Command, Delivery, PowerReset, step, returnedStatus, formSends, sentBy, readOff, isCommand}
+use Rattle.rules.specs.Counting.{dataSent}
 use Rattle.rules.specs.Demands.{edgeRefusal}
 use Rattle.rules.specs.Demands.{bufferOf, LengthFits, Idle, Due, badState, commandBuffer, deliveryBuffer}
 use Rattle.rules.specs.Demands.{authenticationCertificate, signatureCertificate, jobWaiting, noJobWaiting}
 use Rattle.rules.specs.Demands.{Possible, commandResponse, commandJob, deliveryResponse, reset, blockOf}
-use Rattle.rules.specs.Demands.{refusalStatus, Demand1, ProfileKept}
+use Rattle.rules.specs.Demands.{refusalStatus, asksForMoreThan, Demand1, ProfileKept}
+use Rattle.rules.proofs.StatusWords.{response-rest, response-sized, response-status}
 use Rattle.rules.proofs.Forms.{refusal-6700, data-sent}
 use Rattle.rules.proofs.Walks.{command-walk, delivery-walk}
-use Rattle.rules.proofs.Keeping.{Gives, refuses, responds, handsOut, resets, JobOf, call-gives}
-
--- A response in the buffer.
-module _ (buffer d : Bytes) (sw : ℕ) where
-  response-rest : drop (length d + 2) (responseIn buffer d sw) ≡ drop (length d + 2) buffer
-  unfolding responseIn
-  response-rest = drop-append-add d _ 2
-
-  response-sized : length d + 2 ≤ length buffer → length (responseIn buffer d sw) ≡ length buffer
-  unfolding responseIn
-  response-sized room = simp (length-append, length-drop) (omega arith)
-
-  response-status : returnedStatus (responded (length d + 2)) (responseIn buffer d sw) ≡ sw
-  unfolding responseIn returnedStatus
-  response-status =
-      let high : byteAt (responseIn buffer d sw) (length d + 2 - 2) ≡ sw / 256 = getD-at d (sw / 256) _ 0 _ (omega arith) in
-      let place : length d + 2 - 1 ≡ length d + 1 = omega arith in
-      let low : byteAt (responseIn buffer d sw) (length d + 2 - 1) ≡ sw % 256 = rw place (getD-append-add d _ 1 0) in
-      rw (high, low) (div-add-mod' sw 256)
+use Rattle.rules.proofs.Keeping.{Gives, refuses, responds, handsOut, resets, FormEnded, callMayGive, call-gives}
 
 -- Two returns of different cases.
 clash : {P : Type 0} → _≡_ {A = ℕ} 0 1 → P
@@ -64,7 +46,7 @@ response-possible (Command apdu authentication signature buffer) n room l m = co
 response-possible (Delivery result buffer) n room l m = deliveryResponse result buffer n l m
 response-possible PowerReset n room l m = absurd (omega arith)
 
-job-possible : (c : Card) (x : Call) (kind key : ℕ) (block : Bytes) → JobOf c x kind block → Possible x (handedOut kind key)
+job-possible : (c : Card) (x : Call) (kind key : ℕ) (block : Bytes) → callMayGive c x .job kind block → Possible x (handedOut kind key)
 job-possible c (Command apdu authentication signature buffer) kind key block own =
     commandJob apdu authentication signature buffer kind key (own .least) (own .most)
 job-possible c (Delivery result buffer) kind key block own = absurd own
@@ -92,12 +74,42 @@ refusal-of (responds x new d sw g fit room) n e refusal =
 refusal-of (handsOut x new kind key block g own room) n e refusal = clash (cc)
 refusal-of (resets new g) n e refusal = clash (cc)
 
+-- 6282.
+form-over : (b d : Bytes) (p : LengthForm) → FormEnded p d → readOff (λ h _. asksForMoreThan (length d) h) false (formSends b p) ≡ true
+unfolding formSends readOff
+form-over b d (form h start) e =
+    simp (e .class, e .binary, e .parameter, e .without, lt-ltb (length d) (h .le) (e .fewer), le-leb (h .le) 255 (e .short))
+form-over b d (refused sw) e = absurd e
+
+form-some : (d : Bytes) (p : LengthForm) → FormEnded p d → (1 ≤ length d) × (length d ≤ 254)
+form-some d (form h start) e = (e .some, omega (arith, e .fewer, e .short))
+form-some d (refused sw) e = absurd e
+
+command-ended : (c : Card) (x : Call) (d : Bytes) → callMayGive c x .ended d
+    → (1 ≤ length d) × (length d ≤ 254) × (isCommand (asksForMoreThan (length d)) x ≡ true)
+unfolding sentBy
+command-ended c (Command apdu authentication signature buffer) d e =
+    (form-some d (parse apdu) e .0, form-some d (parse apdu) e .1, form-over apdu d (parse apdu) e)
+command-ended c (Delivery result buffer) d e = absurd e
+command-ended c PowerReset d e = absurd e
+
+ended-of : {c : Card} {x : Call} {o : Result} → Gives c x o
+    → (n : ℕ) → o .returned ≡ responded n → returnedStatus (o .returned) (o .buffer) ≡ 0x6282
+    → (1 ≤ n - 2) × (n - 2 ≤ 254) × (isCommand (asksForMoreThan (n - 2)) x ≡ true)
+ended-of (refuses x r) n e ended = clash (cc)
+ended-of {c} (responds x new d sw g fit room) n e ended =
+    let long : length d + 2 ≡ n = cc in
+    let size : n - 2 ≡ length d = omega (arith, long) in
+    rw size (command-ended c x d (fit .ended (rw (response-status (bufferOf x) d sw) at ended)))
+ended-of (handsOut x new kind key block g own room) n e ended = clash (cc)
+ended-of (resets new g) n e ended = clash (cc)
+
 -- A job's block, at the front of the buffer.
 pub record Handed (s : Session) (d : Bytes) (kind : ℕ) (block : Bytes) : Type 0 where
   size : length block ≡ 256
   own : block ≡ blockOf s d kind
 
-job-handed : (c : Card) (x : Call) (kind : ℕ) (block : Bytes) → JobOf c x kind block → Handed (c .session) (dataSent x) kind block
+job-handed : (c : Card) (x : Call) (kind : ℕ) (block : Bytes) → callMayGive c x .job kind block → Handed (c .session) (dataSent x) kind block
 unfolding sentBy
 job-handed c (Command apdu authentication signature buffer) kind block own =
     record { size = own .size; own = rw (data-sent apdu (parse apdu)) (own .own) }
@@ -134,7 +146,7 @@ lent b e =
     let tests = neither (eqb (length b) 0) (ltb 1536 (length b)) e in
     (omega (arith, eqb-false (length b) 0 (tests .0)), ltb-false 1536 (length b) (tests .1))
 
-lent-good : (b : Bytes) → LengthFits b → badCertificate b ≡ false
+pub lent-good : (b : Bytes) → LengthFits b → badCertificate b ≡ false
 lent-good b l = simp (ne-eqb (length b) 0 (omega (arith, l .0)), le-ltb 1536 (length b) (l .1))
 
 not-lent-bad : (b : Bytes) → ¬ LengthFits b → badCertificate b ≡ true
@@ -270,6 +282,7 @@ demand-1 =
             possible = possible-of given;
             response = response-of given;
             refusal = refusal-of given;
+            ended = ended-of given;
             job = job-of given;
             sized = sized-of given;
           };

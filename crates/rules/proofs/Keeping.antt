@@ -1,14 +1,15 @@
 -- What a call of bytes gives, and that it keeps a good card good.
 use mathlib.Core.Path.{_≡_, refl}
-use mathlib.Core.Bool.{Bool, true, not, _&&_, _||_}
+use mathlib.Core.Logic.{_≢_}
+use mathlib.Core.Bool.{Bool, true, false, not, _&&_, _||_, or-false}
 use mathlib.Core.List.{List, [], _∷_, _++_}
-use Prim.Native.Nat.{ℕ, _+_, _-_, _≤_, _<_}
+use Prim.Native.Nat.{ℕ, _+_, _≤_, _<_}
 use native.Mathlib.Omega.{arith}
 use lib.Dec.{eqb, leb}
 use lib.ListN.{length, drop, length-take}
-use borrow.Author.Tests.{eqb-true, leb-true, ltb-false, not-false}
+use borrow.Author.Tests.{eqb-true, leb-true, ltb-false, ne-eqb, not-false}
 use Rattle.octets.specs.Octets.{Bytes, allBytes}
-use Rattle.octets.proofs.Tests.{split, and-left, and-right}
+use Rattle.octets.proofs.Tests.{split, and-left, and-right, or-cases, never}
 use Rattle.rules.specs.declared.Card.{Card}
 use Rattle.rules.specs.declared.Code.{Code}
 use Rattle.rules.specs.declared.CodeStep.{CodeStep}
@@ -17,13 +18,13 @@ use Rattle.rules.specs.declared.Command.the-variants.{Select, ReadRecord
 use Rattle.rules.specs.declared.Command.the-variants.{ResetRetry, SetEnvironment, ChooseKey, InternalAuthenticate}
 use Rattle.rules.specs.declared.Command.the-variants.{ComputeSignature, Decipher}
 use Rattle.rules.specs.declared.Header.{Header}
-use Rattle.rules.specs.Numbers.{LengthForm, Naming, names, namesNone, responded, handedOut, wasReset}
+use Rattle.rules.specs.Numbers.{LengthForm, form, refused, Naming, names, namesNone, responded, handedOut, wasReset}
 use Rattle.rules.specs.Apdu.{parse, dataOf}
 use Rattle.rules.specs.Codes.{PUK, PIN1, PIN2, closed}
 use Rattle.rules.specs.Session.{dropHeld, dropChain, dropBoth}
 use Rattle.rules.specs.State.{goodCodes, goodReferences, goodSession, good}
 use Rattle.rules.specs.Answers.{Answer, response, job, Step, SessionStep, inSession, inCodes}
-use Rattle.rules.specs.Judgement.{commands, instruction, parameters, hasData, lengths, ownRules, refusal}
+use Rattle.rules.specs.Judgement.{commands, instruction, parameters, noData, hasData, hasLe, lengths, ownRules, refusal}
 use Rattle.rules.specs.Judgement.{knownClass, knownInstruction, badChaining, namedIn, judgeNamed, judgeHeader}
 use Rattle.rules.specs.Judgement.{judgeForm, judge}
 use Rattle.rules.specs.Delivery.{deliver}
@@ -32,10 +33,10 @@ use Rattle.rules.specs.Counting.{Call, Command, Delivery, PowerReset, st
 use Rattle.rules.specs.Demands.{bufferOf}
 use Rattle.rules.proofs.Forms.{FitForm, wellFormed, malformed, formData, parse-fits}
 use Rattle.rules.proofs.Parts.{good-codes, good-profile, good-references, good-session, good-card}
-use Rattle.rules.proofs.Walks.{command-walk, delivery-walk}
+use Rattle.rules.proofs.Walks.{refusing, command-walk, delivery-walk}
 use Rattle.rules.proofs.Sessions.{held-replaced, chain-replaced, new-session-good}
-use Rattle.rules.proofs.KeepingAnswers.{FitResponse, Fit, NoJob, OwnJob, Keeps, KeepsCodes, KeepsBoth}
-use Rattle.rules.proofs.KeepingAnswers.{status-fits}
+use Rattle.rules.proofs.KeepingAnswers.{MayCome, FitResponse, Fit, nothingMore, commandMayGive, Ended, Keeps, KeepsCodes, KeepsBoth}
+use Rattle.rules.proofs.KeepingAnswers.{refusing-alone, status-fits}
 use Rattle.rules.proofs.KeepingFiles.{select-keeps, readRecord-keeps, readBinary-keeps, getResponse-keeps}
 use Rattle.rules.proofs.KeepingCodes.{closed-good, verify-keeps, change-keeps, resetRetry-keeps}
 use Rattle.rules.proofs.KeepingKeys.{setEnvironment-keeps, chooseKey-keeps, authenticate-keeps, sign-keeps}
@@ -81,6 +82,12 @@ module _ (h : Header) where
   unfolding lengths
   authenticate-length e = leb-true (h .lc) 245 (and-right (hasData h) _ e)
 
+-- A known class with an instruction other than 2A, and no bad chaining, is 00h.
+plain-class : (h : Header) → knownClass h ≡ true → badChaining h ≡ false → h .ins ≢ 0x2A → h .cla ≡ 0x00
+plain-class h known unchained other =
+    or-cases _ (eqb (h .cla) 0x00) (eqb (h .cla) 0x10) (simp or-false at known) (eqb-true (h .cla) 0x00)
+    (λ e. never (simp (e, ne-eqb (h .ins) 0x2A other) at unchained) refl)
+
 -- A good card with no waiting job.
 module _ (c : Card) (g : good c ≡ true) (idle : c .session .job .kind ≡ 0) where
   abbrev keys : List Bool
@@ -95,93 +102,109 @@ module _ (c : Card) (g : good c ≡ true) (idle : c .session .job .kind ≡ 0) w
   heldless : goodSession keys (dropHeld (c .session)) ≡ true
   heldless = held-replaced keys (c .session) (good-session c g) idle [] (omega arith)
 
-  dropped : goodSession keys (dropBoth (c .session)) ≡ true
+  pub dropped : goodSession keys (dropBoth (c .session)) ≡ true
   dropped = held-replaced keys (dropChain (c .session)) chainless idle [] (omega arith)
 
   -- a command whose Le is at most 256
   module _ (h : Header) (d authentication signature : Bytes) (le : h .le ≤ 256) (short : length d ≤ h .lc) where
-    abbrev J : ℕ → Bytes → Type 0
-    J = OwnJob (c .session) d
+    abbrev m : MayCome
+    m = commandMayGive (Ended h) (c .session) d
 
-    session-only : {o : SessionStep} → Keeps J keys o → KeepsBoth J keys (inSession (c .codes) o)
+    session-only : {o : SessionStep} → Keeps m keys o → KeepsBoth m keys (inSession (c .codes) o)
     session-only k = record { codes = good-codes c g; session = k .session; answer = k .answer }
 
-    codes-only : {o : CodeStep} → KeepsCodes o → KeepsBoth J keys (inCodes (dropBoth (c .session)) o)
+    codes-only : {o : CodeStep} → KeepsCodes o → KeepsBoth m keys (inCodes (dropBoth (c .session)) o)
     codes-only k = record { codes = k .codes; session = dropped; answer = status-fits (k .word) }
 
-    refusal-both : (sw : ℕ) → sw < 65536 → KeepsBoth J keys (refusal c sw)
-    refusal-both sw z = record { codes = good-codes c g; session = dropped; answer = status-fits z }
+    refusal-both : (sw : ℕ) → refusing sw ≡ true → KeepsBoth m keys (refusal c sw)
+    refusal-both sw z = record { codes = good-codes c g; session = dropped; answer = status-fits (refusing-alone sw z) }
 
-    ownRules-keeps : (x : Instruction) → parameters x (h .p1) (h .p2) ≡ true → lengths x h ≡ true
-        → KeepsBoth J keys (ownRules x c h d authentication signature)
-    unfolding ownRules
-    ownRules-keeps Select p l = session-only (select-keeps J keys _ dropped h d)
-    ownRules-keeps ReadRecord p l = session-only (readRecord-keeps (c .codes) (c .profile) (good-profile c g) J _ dropped idle h)
-    ownRules-keeps ReadBinary p l = session-only (readBinary-keeps J keys _ dropped h authentication signature le)
-    ownRules-keeps GetResponse p l = session-only (getResponse-keeps J keys _ chainless h idle)
-    ownRules-keeps Verify p l = codes-only (verify-keeps (c .codes) (good-codes c g) h d (verify-code h p))
-    ownRules-keeps Change p l = codes-only (change-keeps (c .codes) (good-codes c g) h d (change-code h p))
-    ownRules-keeps ResetRetry p l = codes-only (resetRetry-keeps (c .codes) (good-codes c g) h d (reset-code h p .1))
-    ownRules-keeps SetEnvironment p l = session-only (setEnvironment-keeps J keys _ dropped h)
-    ownRules-keeps ChooseKey p l = session-only (chooseKey-keeps J keys _ dropped h d)
-    ownRules-keeps InternalAuthenticate p l =
-        session-only (authenticate-keeps (c .session) (c .codes) keys _ references-good _ dropped h d le refl refl
+    ownRules-keeps : (x : Instruction) → h .ins ≡ instruction x → (h .ins ≢ 0x2A → h .cla ≡ 0x00) → parameters x (h .p1) (h .p2) ≡ true
+        → lengths x h ≡ true → KeepsBoth m keys (ownRules x c h d authentication signature)
+    unfolding ownRules instruction parameters lengths
+    ownRules-keeps Select i k p l = session-only (select-keeps m keys _ dropped h d)
+    ownRules-keeps ReadRecord i k p l = session-only (readRecord-keeps (c .codes) (c .profile) (good-profile c g) m _ dropped idle h)
+    ownRules-keeps ReadBinary i k p l =
+        session-only (readBinary-keeps m keys _ dropped h authentication signature le
+        (λ e some fewer short. record {
+          class = k (omega (arith, i));
+          binary = i;
+          parameter = p;
+          without = and-left (noData h) (hasLe h) l;
+          some = some;
+          fewer = fewer;
+          short = short;
+        }))
+    ownRules-keeps GetResponse i k p l = session-only (getResponse-keeps m keys _ chainless h idle)
+    ownRules-keeps Verify i k p l = codes-only (verify-keeps (c .codes) (good-codes c g) h d (verify-code h p))
+    ownRules-keeps Change i k p l = codes-only (change-keeps (c .codes) (good-codes c g) h d (change-code h p))
+    ownRules-keeps ResetRetry i k p l = codes-only (resetRetry-keeps (c .codes) (good-codes c g) h d (reset-code h p .1))
+    ownRules-keeps SetEnvironment i k p l = session-only (setEnvironment-keeps m keys _ dropped h)
+    ownRules-keeps ChooseKey i k p l = session-only (chooseKey-keeps m keys _ dropped h d)
+    ownRules-keeps InternalAuthenticate i k p l =
+        session-only (authenticate-keeps (Ended h) (c .session) (c .codes) keys _ references-good _ dropped h d le refl refl
         (omega (arith, authenticate-length h l)))
-    ownRules-keeps ComputeSignature p l =
-        sign-keeps (c .session) (c .codes) keys _ references-good _ dropped h d le refl (good-codes c g) refl
-    ownRules-keeps Decipher p l =
-        session-only (decipher-keeps (c .session) (c .codes) keys _ references-good _ heldless h d le refl refl idle)
+    ownRules-keeps ComputeSignature i k p l =
+        sign-keeps (Ended h) (c .session) (c .codes) keys _ references-good _ dropped h d le refl (good-codes c g) refl
+    ownRules-keeps Decipher i k p l =
+        session-only (decipher-keeps (Ended h) (c .session) (c .codes) keys _ references-good _ heldless h d le refl refl idle)
 
-    judgeNamed-keeps : {n : Naming} → Found h n → KeepsBoth J keys (judgeNamed n c h d authentication signature)
+    judgeNamed-keeps : {n : Naming} → Found h n → (h .ins ≢ 0x2A → h .cla ≡ 0x00)
+        → KeepsBoth m keys (judgeNamed n c h d authentication signature)
     unfolding judgeNamed
-    judgeNamed-keeps nothing = refusal-both 0x6A86 (omega arith)
-    judgeNamed-keeps (is x fits) =
-        split (KeepsBoth J keys) (not (lengths x h)) (λ _. refusal-both 0x6700 (omega arith))
-        (λ l. ownRules-keeps x (fits .parameters) (not-false _ l))
+    judgeNamed-keeps nothing k = refusal-both 0x6A86 refl
+    judgeNamed-keeps (is x fits) k =
+        split (KeepsBoth m keys) (not (lengths x h)) (λ _. refusal-both 0x6700 refl)
+        (λ l. ownRules-keeps x (fits .ins) k (fits .parameters) (not-false _ l))
 
-    judgeHeader-keeps : KeepsBoth J keys (judgeHeader c h d authentication signature)
+    judgeHeader-keeps : KeepsBoth m keys (judgeHeader c h d authentication signature)
     unfolding judgeHeader
     judgeHeader-keeps =
-        split (KeepsBoth J keys) (not (knownClass h)) (λ _. refusal-both 0x6E00 (omega arith))
-        (λ _. split (KeepsBoth J keys) (not (knownInstruction h)) (λ _. refusal-both 0x6D00 (omega arith))
-        (λ _. split (KeepsBoth J keys) (badChaining h) (λ _. refusal-both 0x6884 (omega arith))
-        (λ _. judgeNamed-keeps (found h commands))))
+        split (KeepsBoth m keys) (not (knownClass h)) (λ _. refusal-both 0x6E00 refl)
+        (λ known. split (KeepsBoth m keys) (not (knownInstruction h)) (λ _. refusal-both 0x6D00 refl)
+        (λ _. split (KeepsBoth m keys) (badChaining h) (λ _. refusal-both 0x6884 refl)
+        (λ unchained. judgeNamed-keeps (found h commands) (plain-class h (not-false _ known) unchained))))
+
+-- Data that a command of a length form gives with 6282.
+abbrev pub FormEnded : LengthForm → Bytes → Type 0
+FormEnded (form h start) = Ended h
+FormEnded (refused sw) = λ d. ⊥
 
 module _ (c : Card) (g : good c ≡ true) (idle : c .session .job .kind ≡ 0) (b authentication signature : Bytes) where
   judgeForm-keeps : {p : LengthForm} → FitForm p
-      → KeepsBoth (OwnJob (c .session) (formData b p)) (c .profile .keys) (judgeForm c b p authentication signature)
+      → KeepsBoth (commandMayGive (FormEnded p) (c .session) (formData b p)) (c .profile .keys) (judgeForm c b p authentication signature)
   unfolding judgeForm
   judgeForm-keeps (wellFormed h start le) =
       judgeHeader-keeps c g idle h (dataOf b start h) authentication signature le (omega (arith, length-take (h .lc) (drop start b)))
-  judgeForm-keeps malformed = record { codes = good-codes c g; session = dropped c g idle; answer = status-fits (omega arith) }
+  judgeForm-keeps malformed = record { codes = good-codes c g; session = dropped c g idle; answer = status-fits (refusing-alone 0x6700 refl) }
 
   pub judge-keeps : allBytes b ≡ true
-      → KeepsBoth (OwnJob (c .session) (formData b (parse b))) (c .profile .keys) (judge c b authentication signature)
+      → KeepsBoth (commandMayGive (FormEnded (parse b)) (c .session) (formData b (parse b))) (c .profile .keys) (judge c b authentication signature)
   unfolding judge
   judge-keeps bytes = judgeForm-keeps (parse-fits b bytes)
 
--- The jobs that a call may hand out: a command's own; none of any other call.
-abbrev pub JobOf : Card → Call → ℕ → Bytes → Type 0
-JobOf c (Command apdu authentication signature buffer) = OwnJob (c .session) (formData apdu (parse apdu))
-JobOf c (Delivery result buffer) = NoJob
-JobOf c PowerReset = NoJob
+-- What may come from a call: a command's own; neither 6282 nor a job from any other call.
+abbrev pub callMayGive : Card → Call → MayCome
+callMayGive c (Command apdu authentication signature buffer) = commandMayGive (FormEnded (parse apdu)) (c .session) (formData apdu (parse apdu))
+callMayGive c (Delivery result buffer) = nothingMore
+callMayGive c PowerReset = nothingMore
 
 -- What a call can give: an edge refusal, or a good card with a response, a job or a reset.
 pub data Gives (c : Card) : Call → Result → Type 0 where
   refuses : (x : Call) (n : ℕ) → Gives c x (refuse c (bufferOf x) n)
-  responds : (x : Call) (new : Card) (d : Bytes) (sw : ℕ) → good new ≡ true → FitResponse d sw → 258 ≤ length (bufferOf x)
+  responds : (x : Call) (new : Card) (d : Bytes) (sw : ℕ) → good new ≡ true → FitResponse (callMayGive c x) d sw → 258 ≤ length (bufferOf x)
       → Gives c x (record { returned = responded (length d + 2); card = new; buffer = responseIn (bufferOf x) d sw })
-  handsOut : (x : Call) (new : Card) (kind key : ℕ) (block : Bytes) → good new ≡ true → JobOf c x kind block → 258 ≤ length (bufferOf x)
+  handsOut : (x : Call) (new : Card) (kind key : ℕ) (block : Bytes) → good new ≡ true → callMayGive c x .job kind block → 258 ≤ length (bufferOf x)
       → Gives c x (record { returned = handedOut kind key; card = new; buffer = block ++ drop (length block) (bufferOf x) })
   resets : (new : Card) → good new ≡ true → Gives c PowerReset (record { returned = wasReset; card = new; buffer = [] })
 
 module _ (c : Card) (x : Call) (room : 258 ≤ length (bufferOf x)) where
-  written-gives : (new : Card) (a : Answer) → good new ≡ true → Fit (JobOf c x) a → Gives c x (written (bufferOf x) new a)
+  written-gives : (new : Card) (a : Answer) → good new ≡ true → Fit (callMayGive c x) a → Gives c x (written (bufferOf x) new a)
   unfolding written
   written-gives new (response d sw) g fit = responds x new d sw g fit room
   written-gives new (job kind key block) g own = handsOut x new kind key block g own room
 
-  answered-gives : good c ≡ true → (o : Step) → KeepsBoth (JobOf c x) (c .profile .keys) o → Gives c x (answered (bufferOf x) c o)
+  answered-gives : good c ≡ true → (o : Step) → KeepsBoth (callMayGive c x) (c .profile .keys) o → Gives c x (answered (bufferOf x) c o)
   answered-gives g o k =
       written-gives (cardAfter c o) (o .answer) (good-card (cardAfter c o) (k .codes) (good-profile c g) (k .session)) (k .answer)
 

@@ -4,8 +4,6 @@ use mathlib.Core.Bool.{Bool, true, false, not, or-true}
 use mathlib.Core.List.{List}
 use Prim.Native.Nat.{ℕ, _-_, _≤_, _<_}
 use native.Mathlib.Omega.{arith}
-use lib.Dec.{ltb}
-use borrow.Author.Tests.{ltb-true}
 use Rattle.octets.specs.Octets.{Bytes}
 use Rattle.octets.proofs.Buffers.{each-place}
 use Rattle.rules.specs.declared.Code.{Code}
@@ -17,17 +15,17 @@ use Rattle.rules.specs.State.{goodCode, goodCodes}
 use Rattle.rules.specs.Answers.{codeStatus}
 use Rattle.rules.specs.CodeCommands.{swNotAllowed, swHasTries, verdict, judged, queried, verify, replaced}
 use Rattle.rules.specs.CodeCommands.{change, unblockByPresentedPuk, resetRetry}
-use Rattle.rules.proofs.Walks.{queried-walk, verify-walk, replaced-walk, verifiedPuk-walk, resetRetry-walk}
+use Rattle.rules.proofs.Walks.{refusing, queried-walk, verify-walk, replaced-walk, verifiedPuk-walk, resetRetry-walk}
 use Rattle.rules.proofs.Parts.{code-tries, marked-good, stored-good, good-code, codes-good, code-place}
-use Rattle.rules.proofs.KeepingAnswers.{KeepsCodes}
+use Rattle.rules.proofs.KeepingAnswers.{KeepsCodes, refusing-alone, ok-alone, left-alone}
 
 -- A refusal: the codes as they were.
-refused-keeps : {codes : List Code} (sw : ℕ) → goodCodes codes ≡ true → ltb sw 0x9000 ≡ true → KeepsCodes (codeStatus codes sw)
-refused-keeps sw g h = record { codes = g; word = omega (arith, ltb-true sw 0x9000 h) }
+refused-keeps : {codes : List Code} (sw : ℕ) → goodCodes codes ≡ true → refusing sw ≡ true → KeepsCodes (codeStatus codes sw)
+refused-keeps sw g h = record { codes = g; word = refusing-alone sw h }
 
 -- 9000.
 done-keeps : {codes : List Code} → goodCodes codes ≡ true → KeepsCodes (codeStatus codes 0x9000)
-done-keeps g = record { codes = g; word = omega arith }
+done-keeps g = record { codes = g; word = ok-alone }
 
 module _ (codes : List Code) (g : goodCodes codes ≡ true) where
   -- Good codes with another good code.
@@ -51,13 +49,13 @@ module _ (codes : List Code) (g : goodCodes codes ≡ true) where
   judged-keeps k b Right = done-keeps (with-code-good k b _ (three-tries k b true))
   judged-keeps k b Wrong =
       let few : codeOf codes k .tries ≤ 3 = code-tries k (codeOf codes k) (good-code codes g k b) in
-      record { codes = unmarked-good k b (codeOf codes k .tries - 1) (omega arith); word = omega arith }
+      record { codes = unmarked-good k b (codeOf codes k .tries - 1) (omega arith); word = left-alone _ (omega arith) }
   judged-keeps k b NoTries = refused-keeps 0x6983 g refl
 
   queried-keeps : (k : ℕ) → k < 3 → KeepsCodes (queried codes k)
   queried-keeps k b =
       let few : codeOf codes k .tries ≤ 3 = code-tries k (codeOf codes k) (good-code codes g k b) in
-      queried-walk KeepsCodes codes k (λ _. refused-keeps 0x6983 g refl) (λ _ _. done-keeps g) (λ _ _. record { codes = g; word = omega arith })
+      queried-walk KeepsCodes codes k (λ _. refused-keeps 0x6983 g refl) (λ _ _. done-keeps g) (λ _ _. record { codes = g; word = left-alone _ few })
 
   pub verify-keeps : (h : Header) (d : Bytes) → h .p2 < 3 → KeepsCodes (verify codes h d)
   verify-keeps h d b = verify-walk KeepsCodes codes h d (λ _. queried-keeps (h .p2) b) (λ _. judged-keeps (h .p2) b _)

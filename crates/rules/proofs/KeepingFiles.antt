@@ -5,7 +5,7 @@ use mathlib.Core.List.{List, []}
 use Prim.Native.Nat.{ℕ, zero, suc, _-_, _≤_, _<_}
 use native.Mathlib.Omega.{arith}
 use lib.Dec.{eqb}
-use lib.ListN.{length, drop, getD, length-take, length-drop}
+use lib.ListN.{length, take, drop, getD, length-take, length-drop}
 use Rattle.octets.specs.Octets.{Bytes}
 use Rattle.octets.proofs.Tests.{split, either, and-left, and-right}
 use Rattle.rules.specs.declared.Code.{Code}
@@ -20,7 +20,7 @@ use Rattle.rules.specs.FileCommands.{select, readRecord, readBinary, get
 use Rattle.rules.proofs.Parts.{room-len, room-taken, good-references, good-records}
 use Rattle.rules.proofs.Sessions.{selection-good, held-short, selection-replaced, held-replaced}
 use Rattle.rules.proofs.Sessions.{references-length}
-use Rattle.rules.proofs.KeepingAnswers.{Keeps, more-fits, status-keeps, refusal-keeps, data-keeps, give-keeps}
+use Rattle.rules.proofs.KeepingAnswers.{MayCome, Keeps, more-fits, ended-fits, ok-keeps, refusal-keeps, data-keeps, give-keeps}
 use Rattle.rules.proofs.Walks.{select-walk, readRecord-walk, readBinary-walk, getResponse-walk}
 
 -- One of the first n records.
@@ -62,36 +62,41 @@ module _ (codes : List Code) (p : Profile) (g : goodProfile p ≡ true) where
       (λ e. split Short (eqb file 0x0033) (λ e. omega (arith, references-length (p .keys) (p .references) (good-references p g)))
       (λ e. personal-short n (omega (arith, count-most file))))
 
-  pub readRecord-keeps : (J : ℕ → Bytes → Type 0) (s : Session) → goodSession (p .keys) s ≡ true → s .job .kind ≡ 0 → (h : Header)
-      → Keeps J (p .keys) (readRecord codes p s h)
-  readRecord-keeps J s gs idle h =
-      readRecord-walk (Keeps J (p .keys)) s codes p h (refusal-keeps gs)
-      (λ there. give-keeps J (p .keys) s gs (h .le) _ idle (record-short (s .selection .file) (h .p1) there .most))
+  pub readRecord-keeps : (m : MayCome) (s : Session) → goodSession (p .keys) s ≡ true → s .job .kind ≡ 0 → (h : Header)
+      → Keeps m (p .keys) (readRecord codes p s h)
+  readRecord-keeps m s gs idle h =
+      readRecord-walk (Keeps m (p .keys)) s codes p h (refusal-keeps gs)
+      (λ there. give-keeps m (p .keys) s gs (h .le) _ idle (record-short (s .selection .file) (h .p1) there .most))
 
-module _ (J : ℕ → Bytes → Type 0) (keys : List Bool) (s : Session) (g : goodSession keys s ≡ true) (h : Header) where
-  pub select-keeps : (d : Bytes) → Keeps J keys (select s h d)
+module _ (m : MayCome) (keys : List Bool) (s : Session) (g : goodSession keys s ≡ true) (h : Header) where
+  pub select-keeps : (d : Bytes) → Keeps m keys (select s h d)
   unfolding goodSelection
   select-keeps d =
       let directory : ℕ = s .selection .directory in
       let known : (eqb directory root || eqb directory esteidDirectory) ≡ true = and-left _ _ (selection-good keys s g) in
-      select-walk (Keeps J keys) s h d
-      (status-keeps (selection-replaced keys s g root noFile refl) (omega arith))
-      (status-keeps (selection-replaced keys s g esteidDirectory noFile refl) (omega arith))
-      (λ there. status-keeps (selection-replaced keys s g directory _ (simp (known, there, or-true))) (omega arith))
+      select-walk (Keeps m keys) s h d
+      (ok-keeps (selection-replaced keys s g root noFile refl))
+      (ok-keeps (selection-replaced keys s g esteidDirectory noFile refl))
+      (λ there. ok-keeps (selection-replaced keys s g directory _ (simp (known, there, or-true))))
       (refusal-keeps g 0x6A82 refl)
 
-  -- READ BINARY gives at most Le bytes.
-  pub readBinary-keeps : (authentication signature : Bytes) → h .le ≤ 256 → Keeps J keys (readBinary s h authentication signature)
-  readBinary-keeps authentication signature le =
-      readBinary-walk (Keeps J keys) s h authentication signature (refusal-keeps g)
-      (λ certificate there. data-keeps g (simp length-take (omega arith)))
+  -- READ BINARY gives at most Le bytes, and with 6282 all that remain, which are fewer.
+  pub readBinary-keeps : (authentication signature : Bytes) → h .le ≤ 256
+      → ((d : Bytes) → 1 ≤ length d → length d < h .le → h .le ≤ 255 → m .ended d)
+      → Keeps m keys (readBinary s h authentication signature)
+  readBinary-keeps authentication signature le may =
+      readBinary-walk (Keeps m keys) s h authentication signature (refusal-keeps g)
+      (λ remaining. data-keeps g (simp length-take (omega arith)))
+      (λ remaining some fewer short.
+      let all : length (take (h .le) remaining) ≡ length remaining = omega (arith, length-take (h .le) remaining) in
+      record { session = g; answer = ended-fits (omega arith) (may _ (omega arith) (omega arith) short) })
 
-  pub getResponse-keeps : s .job .kind ≡ 0 → Keeps J keys (getResponse s h)
+  pub getResponse-keeps : s .job .kind ≡ 0 → Keeps m keys (getResponse s h)
   getResponse-keeps idle =
       let held : Bytes = heldBytes s in
       let short : length held ≤ 256 = held-short keys s g in
       let kept : (d : Bytes) → length d ≤ 256 → goodSession keys (withHeld s d) ≡ true = held-replaced keys s g idle in
-      getResponse-walk (Keeps J keys) s h
+      getResponse-walk (Keeps m keys) s h
       (refusal-keeps (kept [] (omega arith)) 0x6985 refl)
       (data-keeps (kept [] (omega arith)) short)
       (λ more. record {

@@ -27,16 +27,16 @@ use Rattle.rules.specs.Delivery.{deliver}
 use Rattle.rules.proofs.Walks.{setEnvironment-walk, chooseKey-walk, authenticate-walk, sign-walk, decipher-walk}
 use Rattle.rules.proofs.Walks.{deliver-walk}
 use Rattle.rules.proofs.Sessions.{choice-changed, environment-replaced, chain-replaced, job-ended}
-use Rattle.rules.proofs.KeepingAnswers.{OwnJob, NoJob, Keeps, KeepsBoth, status-keeps, refusal-keeps, give-keeps}
+use Rattle.rules.proofs.KeepingAnswers.{MayCome, nothingMore, OwnJob, commandMayGive, Keeps, KeepsBoth, ok-keeps, refusal-keeps, give-keeps}
 use Rattle.rules.proofs.KeepingAnswers.{handOut-keeps}
 use Rattle.rules.proofs.KeepingCodes.{closed-good}
 
-module _ (J : ℕ → Bytes → Type 0) (keys : List Bool) (s : Session) (g : goodSession keys s ≡ true) where
-  pub setEnvironment-keeps : (h : Header) → Keeps J keys (setEnvironment s h)
+module _ (m : MayCome) (keys : List Bool) (s : Session) (g : goodSession keys s ≡ true) where
+  pub setEnvironment-keeps : (h : Header) → Keeps m keys (setEnvironment s h)
   unfolding goodEnvironment
   setEnvironment-keeps h =
-      setEnvironment-walk (Keeps J keys) s h
-      (λ e. status-keeps (environment-replaced keys s g (h .p2) allActive (simp e)) (omega arith))
+      setEnvironment-walk (Keeps m keys) s h
+      (λ e. ok-keeps (environment-replaced keys s g (h .p2) allActive (simp e)))
       (refusal-keeps g 0x6A88 refl)
 
   -- Another choice for the kind of job that P2 names.
@@ -47,19 +47,19 @@ module _ (J : ℕ → Bytes → Type 0) (keys : List Bool) (s : Session) (g : go
       split P (eqb p2 0xA4) (λ e. choice-changed keys s g 0 (omega arith) key)
       (λ e. split P (eqb p2 0xB6) (λ e. choice-changed keys s g 1 (omega arith) key) (λ e. choice-changed keys s g 2 (omega arith) key))
 
-  pub chooseKey-keeps : (h : Header) (d : Bytes) → Keeps J keys (chooseKey keys s h d)
+  pub chooseKey-keeps : (h : Header) (d : Bytes) → Keeps m keys (chooseKey keys s h d)
   chooseKey-keeps h d =
-      chooseKey-walk (Keeps J keys) s keys h d (refusal-keeps g)
-      (status-keeps (choosing-good (h .p2) 0 refl) (omega arith))
-      (λ class there. status-keeps (choosing-good (h .p2) _ (simp (class, there, or-true))) (omega arith))
+      chooseKey-walk (Keeps m keys) s keys h d (refusal-keeps g)
+      (ok-keeps (choosing-good (h .p2) 0 refl))
+      (λ class there. ok-keeps (choosing-good (h .p2) _ (simp (class, there, or-true))))
 
--- A delivery hands out no job.
-pub deliver-keeps : (keys : List Bool) (s : Session) → goodSession keys s ≡ true → (result : Bytes) → Keeps NoJob keys (deliver s result)
+-- A delivery hands out no job, and is not answered 6282.
+pub deliver-keeps : (keys : List Bool) (s : Session) → goodSession keys s ≡ true → (result : Bytes) → Keeps nothingMore keys (deliver s result)
 deliver-keeps keys s g result =
     let ended : goodSession keys (withJob s noJob) ≡ true = job-ended keys s g in
-    deliver-walk (Keeps NoJob keys) s result (refusal-keeps ended 0x6400 refl) (refusal-keeps ended 0x6A80 refl)
-    (status-keeps ended (omega arith))
-    (λ whole n. give-keeps NoJob keys _ ended (s .job .le) (drop n result) refl (simp length-drop (omega arith)))
+    deliver-walk (Keeps nothingMore keys) s result (refusal-keeps ended 0x6400 refl) (refusal-keeps ended 0x6A80 refl)
+    (ok-keeps ended)
+    (λ whole n. give-keeps nothingMore keys _ ended (s .job .le) (drop n result) refl (simp length-drop (omega arith)))
 
 -- A digest of the list is short enough to pad.
 prefixed-short : (d prefix : Bytes) (n : ℕ) → leb (length prefix + n) 253 ≡ true → prefixed prefix n d ≡ true → length d ≤ 253
@@ -78,32 +78,32 @@ digest-short d =
     (prefixed-short d (sha2Prefix 0x51 0x03 0x40) 0x40 refl)
 
 -- Commands that hand out a job: Le is at most 256, and nothing is held. The card was in session t before something of it was dropped.
-module _ (t : Session) (codes : List Code) (keys : List Bool) (references : Bytes) (r : goodReferences keys references ≡ true)
+module _ (E : Bytes → Type 0) (t : Session) (codes : List Code) (keys : List Bool) (references : Bytes) (r : goodReferences keys references ≡ true)
     (s : Session) (g : goodSession keys s ≡ true) (h : Header) (d : Bytes) (le : h .le ≤ 256) (held : s .held .len ≡ 0) where
   -- a padded block
   padded-job : (kind : ℕ) → 1 ≤ kind → kind ≤ 2 → length d ≤ 253 → OwnJob t d kind (padded d)
   padded-job kind least most short =
       record { least = least; most = omega arith; size = padded-length d short; own = rw (ne-eqb kind 3 (omega arith)) }
 
-  pub authenticate-keeps : s .chain .len ≡ 0 → length d ≤ 253 → Keeps (OwnJob t d) keys (internalAuthenticate codes references s h d)
+  pub authenticate-keeps : s .chain .len ≡ 0 → length d ≤ 253 → Keeps (commandMayGive E t d) keys (internalAuthenticate codes references s h d)
   authenticate-keeps chain short =
-      authenticate-walk (Keeps (OwnJob t d) keys) s codes references h d (refusal-keeps g)
+      authenticate-walk (Keeps (commandMayGive E t d) keys) s codes references h d (refusal-keeps g)
       (λ _. handOut-keeps keys references s r g held chain Authenticate (h .le) (padded d) le (padded-job 1 (omega arith) (omega arith) short))
 
-  pub sign-keeps : goodCodes codes ≡ true → s .chain .len ≡ 0 → KeepsBoth (OwnJob t d) keys (sign codes references s h d)
+  pub sign-keeps : goodCodes codes ≡ true → s .chain .len ≡ 0 → KeepsBoth (commandMayGive E t d) keys (sign codes references s h d)
   sign-keeps gc chain =
-      sign-walk (KeepsBoth (OwnJob t d) keys) codes references s h d
-      (λ sw z. let kept = refusal-keeps {J = OwnJob t d} g sw z in record { codes = gc; session = kept .session; answer = kept .answer })
+      sign-walk (KeepsBoth (commandMayGive E t d) keys) codes references s h d
+      (λ sw z. let kept = refusal-keeps {m = commandMayGive E t d} g sw z in record { codes = gc; session = kept .session; answer = kept .answer })
       (λ digest _.
       let own : OwnJob t d 2 (padded d) = padded-job 2 (omega arith) (omega arith) (digest-short d digest) in
-      let job = handOut-keeps {J = OwnJob t d} keys references s r g held chain Sign (h .le) (padded d) le own in
+      let job = handOut-keeps {m = commandMayGive E t d} keys references s r g held chain Sign (h .le) (padded d) le own in
       record { codes = closed-good codes gc PIN2 (omega arith); session = job .session; answer = job .answer })
 
-  pub decipher-keeps : chainBytes t ≡ chainBytes s → s .job .kind ≡ 0 → Keeps (OwnJob t d) keys (decipher codes references s h d)
+  pub decipher-keeps : chainBytes t ≡ chainBytes s → s .job .kind ≡ 0 → Keeps (commandMayGive E t d) keys (decipher codes references s h d)
   decipher-keeps chain idle =
       let joined : Bytes = chainBytes s ++ d in
       let emptied : goodSession keys (dropChain s) ≡ true = chain-replaced keys s g idle [] (omega arith) in
-      decipher-walk (Keeps (OwnJob t d) keys) s codes references h d (refusal-keeps emptied)
-      (λ few. status-keeps (chain-replaced keys s g idle joined few) (omega arith))
+      decipher-walk (Keeps (commandMayGive E t d) keys) s codes references h d (refusal-keeps emptied)
+      (λ few. ok-keeps (chain-replaced keys s g idle joined few))
       (λ whole _. handOut-keeps keys references (dropChain s) r emptied held refl Decipher (h .le) (drop 1 joined) le
       (record { least = omega arith; most = omega arith; size = omega (arith, length-drop 1 joined, whole); own = rw chain }))

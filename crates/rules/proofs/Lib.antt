@@ -11,6 +11,8 @@ pub mod KeepingCodes
 pub mod KeepingKeys
 pub mod Keeping
 pub mod Demand1
+pub mod Certificates
+pub mod Reading
 pub mod Loading
 pub mod GoodStates
 pub mod Queries

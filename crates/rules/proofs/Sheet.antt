@@ -5,7 +5,7 @@ use mathlib.Core.Bool.{Bool, true, false, not, cond, _&&_, _||_, or-false, and-f
 use mathlib.Core.List.{List, []}
 use Prim.Native.Nat.{ℕ, _+_, _-_, _≤_, _<_}
 use native.Mathlib.Omega.{arith}
-use lib.Dec.{eqb, leb, ltb}
+use lib.Dec.{eqb, leb}
 use lib.ListN.{length, drop, length-set}
 use borrow.Author.Tests.{eqb-true, eq-eqb, ne-eqb, le-leb, lt-leb, not-false}
 use Rattle.octets.specs.Octets.{Bytes, same}
@@ -51,7 +51,7 @@ use Rattle.rules.proofs.Parts.{code-same, code-other}
 use Rattle.rules.proofs.Walks.{give-walk, select-walk, readRecord-walk, readBinary-walk, getResponse-walk}
 use Rattle.rules.proofs.Walks.{setEnvironment-walk, chooseKey-walk, authenticate-walk, sign-walk, decipher-walk}
 use Rattle.rules.proofs.Walks.{verdict-walk, queried-walk, verify-walk, replaced-walk, verifiedPuk-walk, resetRetry-walk}
-use Rattle.rules.proofs.Walks.{command-walk, delivery-walk}
+use Rattle.rules.proofs.Walks.{command-walk, delivery-walk, refusing}
 use Rattle.rules.proofs.Forms.{refusal-6700, asked}
 use Rattle.rules.proofs.Keeping.{Found, is, nothing, found, verify-code, change-code, reset-code}
 use Rattle.rules.proofs.Queries.{verifies-nothing, presents-nothing, unblocks-nothing, asked-about}
@@ -220,7 +220,7 @@ module _ (codes : List Code) where
   abbrev N : SessionStep → Type 0
   N = Permitted codes
 
-  refused-permitted : {s : Session} (sw : ℕ) → ltb sw 0x9000 ≡ true → N (sessionStatus s sw)
+  refused-permitted : {s : Session} (sw : ℕ) → refusing sw ≡ true → N (sessionStatus s sw)
   refused-permitted sw _ = response-permitted
 
   give-permitted : (s : Session) (le : ℕ) (d : Bytes) → N (give s le d)
@@ -234,7 +234,7 @@ module _ (codes : List Code) where
 
   readBinary-permitted : (s : Session) (h : Header) (authentication signature : Bytes) → N (readBinary s h authentication signature)
   readBinary-permitted s h authentication signature =
-      readBinary-walk N s h authentication signature refused-permitted (λ _ _. response-permitted)
+      readBinary-walk N s h authentication signature refused-permitted (λ _. response-permitted) (λ _ _ _ _. response-permitted)
 
   getResponse-permitted : (s : Session) (h : Header) → N (getResponse s h)
   getResponse-permitted s h = getResponse-walk N s h response-permitted response-permitted (λ _. response-permitted)

@@ -6,10 +6,10 @@ use mathlib.Core.List.{List, [], _∷_, _++_}
 use Prim.Native.Nat.{ℕ, _+_, _-_, _≤_, _<_}
 use native.Mathlib.Omega.{arith}
 use lib.Dec.{eqb, leb, ltb}
-use lib.ListN.{length, take, drop}
-use borrow.Author.Tests.{eqb-true, eqb-false, leb-false, ltb-false, not-false}
+use lib.ListN.{length, take, drop, length-drop}
+use borrow.Author.Tests.{eqb-true, eqb-false, leb-true, leb-false, ltb-true, ltb-false, not-false}
 use Rattle.octets.specs.Octets.{Bytes, byteAt, word, same, member}
-use Rattle.octets.proofs.Tests.{split, and-right}
+use Rattle.octets.proofs.Tests.{split, and-left, and-right}
 use Rattle.pkcs1.specs.Pkcs1.{padded, strip}
 use Rattle.rules.specs.declared.Card.{Card}
 use Rattle.rules.specs.declared.Code.{Code}
@@ -29,7 +29,7 @@ use Rattle.rules.specs.Session.{dropChain}
 use Rattle.rules.specs.Files.{filesIn, certificateFile, certificateOf, recordCount, recordOf}
 use Rattle.rules.specs.Answers.{Step, SessionStep, response, codeStatus, sessionStatus, status, inSession}
 use Rattle.rules.specs.Answers.{moreBytes, give, handOut}
-use Rattle.rules.specs.FileCommands.{select, readRecord, readBinary, getResponse}
+use Rattle.rules.specs.FileCommands.{select, readRecord, readStatus, readBinary, getResponse}
 use Rattle.rules.specs.CodeCommands.{swNotAllowed, swHasTries, verdict, judged, queried, verify, replaced}
 use Rattle.rules.specs.CodeCommands.{unblockByVerifiedPuk, unblockByPresentedPuk, resetRetry}
 use Rattle.rules.specs.Digests.{isDigest}
@@ -39,6 +39,11 @@ use Rattle.rules.specs.State.{good}
 use Rattle.rules.specs.Judgement.{judge}
 use Rattle.rules.specs.Delivery.{deliver}
 use Rattle.rules.specs.Edge.{Result, refuse, answered, shortBuffer, badCertificate, jobWaits, command, delivery}
+use Rattle.rules.specs.Demands.{refusalStatus}
+
+-- A refusal: a status word that may not come with data, below 9000h.
+abbrev pub refusing : ℕ → Bool
+refusing sw = refusalStatus sw && ltb sw 0x9000
 
 -- The commands that change nothing but the session.
 module _ (P : SessionStep → Type 0) (s : Session) where
@@ -66,7 +71,7 @@ module _ (P : SessionStep → Type 0) (s : Session) where
       (λ _. none)))
 
   pub readRecord-walk : (codes : List Code) (profile : Profile) (h : Header)
-      → ((sw : ℕ) → ltb sw 0x9000 ≡ true → P (sessionStatus s sw))
+      → ((sw : ℕ) → refusing sw ≡ true → P (sessionStatus s sw))
       → (h .p1 ≤ recordCount (s .selection .file) → P (give s (h .le) (recordOf codes profile (s .selection .file) (h .p1))))
       → P (readRecord codes profile s h)
   unfolding readRecord
@@ -77,17 +82,24 @@ module _ (P : SessionStep → Type 0) (s : Session) where
       (λ e. there (ltb-false _ _ e))))
 
   pub readBinary-walk : (h : Header) (authentication signature : Bytes)
-      → ((sw : ℕ) → ltb sw 0x9000 ≡ true → P (sessionStatus s sw))
-      → ((certificate : Bytes) → word (h .p1) (h .p2) < length certificate
-      → P (record { session = s; answer = response (take (h .le) (drop (word (h .p1) (h .p2)) certificate)) 0x9000 }))
+      → ((sw : ℕ) → refusing sw ≡ true → P (sessionStatus s sw))
+      → ((remaining : Bytes) → P (record { session = s; answer = response (take (h .le) remaining) 0x9000 }))
+      → ((remaining : Bytes) → 1 ≤ length remaining → length remaining < h .le → h .le ≤ 255
+      → P (record { session = s; answer = response (take (h .le) remaining) 0x6282 }))
       → P (readBinary s h authentication signature)
-  unfolding readBinary
-  readBinary-walk h authentication signature none there =
+  unfolding readBinary readStatus
+  readBinary-walk h authentication signature none there ended =
       let certificate : Bytes = certificateOf (s .selection .file) authentication signature in
+      let remaining : Bytes = drop (word (h .p1) (h .p2)) certificate in
+      let few : Bool = leb (h .le) 255 in
+      let short : Bool = ltb (length remaining) (h .le) in
       split P (eqb (s .selection .file) noFile) (λ _. none 0x6986 refl)
       (λ _. split P (not (certificateFile (s .selection .file))) (λ _. none 0x6981 refl)
       (λ _. split P (leb (length certificate) (word (h .p1) (h .p2))) (λ _. none 0x6B00 refl)
-      (λ e. there certificate (leb-false _ _ e))))
+      (λ e. split (λ sw. P (record { session = s; answer = response (take (h .le) remaining) sw })) (few && short)
+      (λ t. ended remaining (omega (arith, leb-false (length certificate) (word (h .p1) (h .p2)) e, length-drop (word (h .p1) (h .p2)) certificate))
+      (ltb-true (length remaining) (h .le) (and-right few short t)) (leb-true (h .le) 255 (and-left few short t)))
+      (λ _. there remaining))))
 
   pub getResponse-walk : (h : Header)
       → P (sessionStatus (dropHeld s) 0x6985)
@@ -110,7 +122,7 @@ module _ (P : SessionStep → Type 0) (s : Session) where
   setEnvironment-walk h set none = split P (eqb (h .p2) 1 || eqb (h .p2) 6) set (λ _. none)
 
   pub chooseKey-walk : (keys : List Bool) (h : Header) (d : Bytes)
-      → ((sw : ℕ) → ltb sw 0x9000 ≡ true → P (sessionStatus s sw))
+      → ((sw : ℕ) → refusing sw ≡ true → P (sessionStatus s sw))
       → P (sessionStatus (choosing s (kindChosen (h .p2)) 0) 0x9000)
       → (ofClass (kindChosen (h .p2)) (word (byteAt d 3) (byteAt d 4)) ≡ true → present keys (word (byteAt d 3) (byteAt d 4)) ≡ true
       → P (sessionStatus (choosing s (kindChosen (h .p2)) (word (byteAt d 3) (byteAt d 4))) 0x9000))
@@ -125,7 +137,7 @@ module _ (P : SessionStep → Type 0) (s : Session) where
       (λ there. chosen (not-false _ class) (not-false _ there)))))
 
   pub authenticate-walk : (codes : List Code) (references : Bytes) (h : Header) (d : Bytes)
-      → ((sw : ℕ) → ltb sw 0x9000 ≡ true → P (sessionStatus s sw))
+      → ((sw : ℕ) → refusing sw ≡ true → P (sessionStatus s sw))
       → (codeOf codes PIN1 .verified ≡ true
       → P (handOut s (kindNumber Authenticate) (jobKey references s (kindNumber Authenticate)) (h .le) (padded d)))
       → P (internalAuthenticate codes references s h d)
@@ -136,7 +148,7 @@ module _ (P : SessionStep → Type 0) (s : Session) where
       (λ e. handed (not-false _ e)))
 
   pub decipher-walk : (codes : List Code) (references : Bytes) (h : Header) (d : Bytes)
-      → ((sw : ℕ) → ltb sw 0x9000 ≡ true → P (sessionStatus (dropChain s) sw))
+      → ((sw : ℕ) → refusing sw ≡ true → P (sessionStatus (dropChain s) sw))
       → (length (chainBytes s ++ d) ≤ 257 → P (sessionStatus (withChain s (chainBytes s ++ d)) 0x9000))
       → (length (chainBytes s ++ d) ≡ 257 → codeOf codes PIN1 .verified ≡ true
       → P (handOut (dropChain s) (kindNumber Decipher) (jobKey references s (kindNumber Decipher)) (h .le) (drop 1 (chainBytes s ++ d))))
@@ -169,7 +181,7 @@ module _ (P : SessionStep → Type 0) (s : Session) where
 
 -- 2A 9E 9A SIGN.
 pub sign-walk : (P : Step → Type 0) (codes : List Code) (references : Bytes) (s : Session) (h : Header) (d : Bytes)
-    → ((sw : ℕ) → ltb sw 0x9000 ≡ true → P (status codes s sw))
+    → ((sw : ℕ) → refusing sw ≡ true → P (status codes s sw))
     → (isDigest d ≡ true → codeOf codes PIN2 .verified ≡ true
     → P (inSession (closed codes PIN2) (handOut s (kindNumber Sign) (jobKey references s (kindNumber Sign)) (h .le) (padded d))))
     → P (sign codes references s h d)

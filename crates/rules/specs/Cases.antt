@@ -78,6 +78,10 @@ verifyOf k d = withBody 0x00 0x20 0x00 k d
 abbrev pub asking : ℕ → Call
 asking k = send (0x00 ∷ 0x20 ∷ 0x00 ∷ k ∷ [])
 
+-- READ BINARY below offset 256, of an authentication certificate of three bytes.
+abbrev pub readThree : ℕ → ℕ → Call
+readThree offset le = Command (0x00 ∷ 0xB0 ∷ 0x00 ∷ offset ∷ le ∷ []) (0x30 ∷ 0x01 ∷ 0x05 ∷ []) (0x30 ∷ []) buffer
+
 abbrev pub wrongPin1 : Call
 wrongPin1 = verifyOf PIN1 (0x39 ∷ 0x39 ∷ 0x39 ∷ 0x39 ∷ [])
 
@@ -166,6 +170,44 @@ cases =
           ∷ []
           );
       expected = sw 0x63C3 ∷ sw 0x9000 ∷ sw 0x9000 ∷ signJob ∷ sw 0x6100 ∷ sw 0x63C3 ∷ sw 0x6982 ∷ fresh;
+    }
+    -- the end of a file (02, wish 2): Le at most what remains, greater, 00; the offset at the size
+    ∷ record {
+      seen = onSample (
+          withBody 0x00 0xA4 0x01 0x0C (0xEE ∷ 0xEE ∷ [])
+          ∷ withBody 0x00 0xA4 0x02 0x0C (0xAA ∷ 0xCE ∷ [])
+          ∷ readThree 0 2
+          ∷ readThree 1 2
+          ∷ readThree 2 2
+          ∷ readThree 2 0
+          ∷ readThree 3 2
+          ∷ []
+          );
+      expected =
+          sw 0x9000
+          ∷ sw 0x9000
+          ∷ shows (0x30 ∷ 0x01 ∷ []) 0x9000
+          ∷ shows (0x01 ∷ 0x05 ∷ []) 0x9000
+          ∷ shows (0x05 ∷ []) 0x6282
+          ∷ shows (0x05 ∷ []) 0x9000
+          ∷ sw 0x6B00
+          ∷ fresh;
+    }
+    -- Le greater than a record, and than what is held: 9000
+    ∷ record {
+      seen = onSample (
+          withBody 0x00 0xA4 0x02 0x0C (0x00 ∷ 0x16 ∷ [])
+          ∷ send (0x00 ∷ 0xB2 ∷ 0x03 ∷ 0x04 ∷ 0xFF ∷ [])
+          ∷ send (0x00 ∷ 0xB2 ∷ 0x03 ∷ 0x04 ∷ [])
+          ∷ send (0x00 ∷ 0xC0 ∷ 0x00 ∷ 0x00 ∷ 0xFF ∷ [])
+          ∷ []
+          );
+      expected =
+          sw 0x9000
+          ∷ shows (0x80 ∷ 0x01 ∷ 0x03 ∷ 0x90 ∷ 0x01 ∷ 0x03 ∷ []) 0x9000
+          ∷ sw 0x6106
+          ∷ shows (0x80 ∷ 0x01 ∷ 0x03 ∷ 0x90 ∷ 0x01 ∷ 0x03 ∷ []) 0x9000
+          ∷ fresh;
     }
     -- P3 00 2C 03 01: 6A86
     ∷ record { seen = onSample (send (0x00 ∷ 0x2C ∷ 0x03 ∷ 0x01 ∷ []) ∷ []); expected = sw 0x6A86 ∷ fresh }

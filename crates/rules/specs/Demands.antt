@@ -1,14 +1,15 @@
 -- The demands as statements over the rules. Their proofs stand in proofs/.
-use Prim.Native.Nat.{ℕ, _+_, _*_, _/_, _≤_, _<_}
+use Prim.Native.Nat.{ℕ, _+_, _-_, _*_, _/_, _≤_, _<_}
 use mathlib.Core.Path.{_≡_}
 use mathlib.Core.Logic.{_↔_}
 use mathlib.Core.Bool.{Bool, true, false, cond, not, _&&_}
 use mathlib.Core.List.{List, [], _∷_, _++_}
 use lib.ListN.{length, drop}
-use lib.Dec.{eqb}
+use lib.Dec.{eqb, leb, ltb}
 use Rattle.octets.specs.Octets.{Bytes}
 use Rattle.pkcs1.specs.Pkcs1.{padded}
 use Rattle.rules.specs.declared.Card.{Card}
+use Rattle.rules.specs.declared.Header.{Header}
 use Rattle.rules.specs.declared.JobKind.the-variants.{Decipher}
 use Rattle.rules.specs.declared.Session.{Session}
 use Rattle.rules.specs.Numbers.{kindNumber, Returned, edge, responded, handedOut, wasReset, refused}
@@ -70,9 +71,14 @@ blockOf s d kind =
     cond (eqb kind (kindNumber Decipher)) (drop 1 (chainBytes s ++ d))
     (padded d)
 
--- A status word that refuses: any but 9000 and 61xx.
+-- A status word that refuses: any but those that may come with data, 9000, 61xx and 6282 (02, wish 2).
 abbrev pub refusalStatus : ℕ → Bool
-refusalStatus sw = not (eqb sw 0x9000) && not (eqb (sw / 256) 0x61)
+refusalStatus sw = not (eqb sw 0x9000) && not (eqb (sw / 256) 0x61) && not (eqb sw 0x6282)
+
+-- A READ BINARY (00 B0, P1 under 80h, no data) whose Le, at most 255, is greater than n.
+abbrev pub asksForMoreThan : ℕ → Header → Bool
+asksForMoreThan n h =
+    eqb (h .cla) 0x00 && eqb (h .ins) 0xB0 && ltb (h .p1) 0x80 && eqb (h .lc) 0 && ltb n (h .le) && leb (h .le) 255
 
 -- Demand 1, of one call on one card.
 pub record Defined (c : Card) (x : Call) : Type 0 where
@@ -86,6 +92,9 @@ pub record Defined (c : Card) (x : Call) : Type 0 where
   pub response : (n : ℕ) → step c x .returned ≡ responded n → drop n (step c x .buffer) ≡ drop n (bufferOf x)
   -- a refusal by status word writes that word and nothing else
   pub refusal : (n : ℕ) → step c x .returned ≡ responded n → refusalStatus (statusWord (exchange c x)) ≡ true → n ≡ 2
+  -- 6282 comes only from READ BINARY, with 1 to 254 bytes of data, fewer than Le
+  pub ended : (n : ℕ) → step c x .returned ≡ responded n → statusWord (exchange c x) ≡ 0x6282
+      → (1 ≤ n - 2) × (n - 2 ≤ 254) × (isCommand (asksForMoreThan (n - 2)) x ≡ true)
   -- a job writes its block of 256 bytes, and past it nothing changes
   pub job : (kind key : ℕ) → step c x .returned ≡ handedOut kind key
       → (length (blockOf (c .session) (dataSent x) kind) ≡ 256)

@@ -1,5 +1,5 @@
 -- Document 01, "Order of judgement for a command", step 7: SELECT, READ RECORD, READ BINARY and GET RESPONSE.
-use Prim.Native.Nat.{_-_}
+use Prim.Native.Nat.{ℕ, _-_}
 use mathlib.Core.Bool.{cond, not, _&&_}
 use mathlib.Core.List.{List}
 use lib.ListN.{length, take, drop}
@@ -34,17 +34,23 @@ readRecord codes profile s h =
     (cond (ltb (recordCount file) (h .p1)) (sessionStatus s 0x6A83)
     (give s (h .le) (recordOf codes profile file (h .p1)))))
 
+-- 02, wish 2. Le from 1 to 255 greater than what remains: 6282, the end of the file reached before Le bytes. Else 9000: Le at most
+-- what remains; or Le 00, which means 256, whatever remains.
+unfoldable pub readStatus : ℕ → ℕ → ℕ
+readStatus le remains = cond (leb le 255 && ltb remains le) 0x6282 0x9000
+
 -- B0 READ BINARY, offset P1P2. No file 6986; record file 6981; offset at or past the size 6B00.
--- Gives the smaller of Le and what remains, 9000.
+-- Gives the smaller of Le and what remains; 9000 or 6282.
 unfoldable pub readBinary : Session → Header → Bytes → Bytes → SessionStep
 readBinary s h authentication signature =
     let file = s .selection .file in
     let offset = word (h .p1) (h .p2) in
     let certificate = certificateOf file authentication signature in
+    let remaining = drop offset certificate in
     cond (eqb file noFile) (sessionStatus s 0x6986)
     (cond (not (certificateFile file)) (sessionStatus s 0x6981)
     (cond (leb (length certificate) offset) (sessionStatus s 0x6B00)
-    (record { session = s; answer = response (take (h .le) (drop offset certificate)) 0x9000 })))
+    (record { session = s; answer = response (take (h .le) remaining) (readStatus (h .le) (length remaining)) })))
 
 -- C0 GET RESPONSE. Nothing held 6985. Gives the smaller of Le and held; 9000, or 61 and the rest.
 unfoldable pub getResponse : Session → Header → SessionStep

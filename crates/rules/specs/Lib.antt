@@ -17,5 +17,6 @@ pub mod Image
 pub mod Counting
 pub mod Demands
 pub mod CodeSheet
+pub mod Reading
 pub mod Sample
 pub mod Cases
