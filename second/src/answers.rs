@@ -19,7 +19,10 @@ const DATA_LENGTHS: [(usize, usize); 15] = [
     (256, 256),
 ];
 
-const LETTERS: &[u8; 7] = b"PCDLASB";
+/// How many bytes an image has.
+const IMAGE_LENGTHS: [(usize, usize); 3] = [(84, 84), (85, 1114), (1115, 1115)];
+
+const LETTERS: &[u8; 8] = b"PCDLASBI";
 
 /// Every class that lines can reach.
 pub fn wanted() -> Vec<String> {
@@ -32,13 +35,16 @@ pub fn wanted() -> Vec<String> {
         ("A", "A ?"),
         ("S", "S ?"),
         ("B", "B ?"),
+        ("I", "I H1 H2 ?"),
         ("other", "?"),
         ("J1", "1100 1200"),
         ("J2", "0100 0200"),
         ("J3", "1100 1200"),
     ];
     let lettered = answers.iter().flat_map(|(letter, list)| list.split(' ').map(move |answer| format!("{letter} {answer}")));
-    lettered.chain(DATA_LENGTHS.iter().map(data_class)).collect()
+    let data = DATA_LENGTHS.iter().map(|range| length_class("data", range));
+    let images = IMAGE_LENGTHS.iter().map(|range| length_class("image", range));
+    lettered.chain(data).chain(images).collect()
 }
 
 /// The classes that a line and its answer belong to.
@@ -50,17 +56,23 @@ pub fn reached(line: &[u8], answer: &str) -> Vec<String> {
     match answer.as_bytes() {
         [b'R', response @ ..] if response.len() >= 4 => {
             let (data, word) = answer[1..].split_at(response.len() - 4);
-            let range = DATA_LENGTHS.iter().find(|(_, most)| data.len() / 2 <= *most);
-            let response = format!("{letter} {}", word_class(word));
-            [Some(response), range.map(data_class)].into_iter().flatten().collect()
+            vec![format!("{letter} {}", word_class(word)), class_of_length("data", &DATA_LENGTHS, data)]
         }
+        [b'I', ..] => vec![format!("{letter} I"), class_of_length("image", &IMAGE_LENGTHS, &answer[1..])],
         [b'J', ..] => answer.get(..7).map(str::to_string).into_iter().collect(),
         _ => vec![format!("{letter} {answer}")],
     }
 }
 
-fn data_class((least, most): &(usize, usize)) -> String {
-    if least == most { format!("data {least}") } else { format!("data {least} to {most}") }
+fn length_class(name: &str, (least, most): &(usize, usize)) -> String {
+    if least == most { format!("{name} {least}") } else { format!("{name} {least} to {most}") }
+}
+
+/// By the number of bytes that the hex has; a number outside the ranges is a class that nobody wants.
+fn class_of_length(name: &str, ranges: &[(usize, usize)], text: &str) -> String {
+    let length = text.len() / 2;
+    let range = ranges.iter().find(|(least, most)| (*least..=*most).contains(&length));
+    length_class(name, range.unwrap_or(&(length, length)))
 }
 
 fn word_class(word: &str) -> &str {

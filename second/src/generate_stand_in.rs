@@ -8,14 +8,14 @@ use crate::stand_in::{StandIn, LARGEST_BUFFER};
 use crate::state::*;
 use crate::{hex, CardState};
 
-const SMALLEST_BUFFER: usize = 258;
+pub(crate) const SMALLEST_BUFFER: usize = 258;
 const LONGEST_CERTIFICATE: usize = 1536;
 /// The most bytes that a line has room for.
 const MOST_BYTES: usize = 2047;
 
 #[derive(Clone)]
 pub struct PlayedStandIn {
-    stand_in: StandIn,
+    pub(crate) stand_in: StandIn,
     /// The next session begins when so many lines are made.
     session_ends: usize,
     /// Whether a command that would block PUK is held back, because nothing unblocks PUK.
@@ -57,7 +57,7 @@ impl Played for PlayedStandIn {
     }
 
     fn malformed(r: &mut Random) -> Vec<u8> {
-        match r.below(9) {
+        match r.below(11) {
             0 | 1 => spoiled_hex(r),
             2 => other_buffer(r),
             3 | 4 => too_long(r),
@@ -66,21 +66,23 @@ impl Played for PlayedStandIn {
                 r.bytes(n).into_iter().filter(|byte| !b"\nL".contains(byte)).collect() // L alone would load no card
             }
             6 => {
-                let letter = r.pick(b"EFGHIJKMNOQRTUVWXYZlascdbp0123456789?.- ");
+                let letter = r.pick(b"EFGHJKMNOQRTUVWXYZlascdbpi0123456789?.- ");
                 let n = r.below(4);
                 line_of(letter, &r.bytes(n))
             }
+            7 | 8 => other_image_line(r),
             _ => r.pick(&OTHER_LINES).to_vec(),
         }
     }
 
     fn interruption(generator: &mut Generator<Self>) {
-        match generator.random.below(11) {
+        match generator.random.below(13) {
             0..=3 => generator.single_interruption(),
             4 | 5 => generator.small_buffer(),
             6 | 7 => generator.bad_certificate(),
             8 => generator.lend_good(),
             9 if generator.near_its_end() => generator.good_card(),
+            10 | 11 => generator.write(),
             _ => generator.large_buffer(),
         }
     }
@@ -91,6 +93,7 @@ impl Played for PlayedStandIn {
             1 | 2 => generator.plain_command(),
             3 => generator.step(),
             4 | 5 if generator.near_its_end() => generator.next_session(),
+            6 => generator.write(),
             _ => {}
         }
     }
@@ -106,6 +109,9 @@ impl Played for PlayedStandIn {
 
     fn scenario(generator: &mut Generator<Self>) {
         if generator.made >= generator.session.session_ends {
+            if generator.random.percent(20) {
+                generator.write_and_load();
+            }
             generator.next_session();
             return;
         }
@@ -124,6 +130,9 @@ impl Generator<PlayedStandIn> {
     /// A card that load refuses, or a session on a good one.
     fn next_session(&mut self) {
         self.session.spares_puk = false;
+        if self.random.percent(3) {
+            self.write_shortest_or_longest();
+        }
         if self.random.percent(50) {
             self.refused_card();
         } else {
@@ -134,6 +143,9 @@ impl Generator<PlayedStandIn> {
     fn good_card(&mut self) {
         let image = Parts::valid(&mut self.random).bytes();
         self.call(b'L', &image);
+        if self.random.percent(15) {
+            self.write();
+        }
         if self.random.percent(15) {
             // Nothing of the card before is left.
             self.call(b'D', &[0; 256]);
@@ -208,14 +220,12 @@ impl Generator<PlayedStandIn> {
     }
 
     fn line_for_refused_card(&mut self) {
-        match self.random.below(12) {
+        match self.random.below(14) {
             0 | 1 => self.line(b"P".to_vec()),
             2..=5 => self.plain_command(),
             6 | 7 => self.plain_delivery(),
-            8 => {
-                let length = self.random.pick(&[0, 257, SMALLEST_BUFFER, LARGEST_BUFFER]);
-                self.buffer(length);
-            }
+            8 | 11 => self.write_by_size(),
+            12 => self.write(),
             9 => {
                 let letter = self.random.pick(b"AS");
                 let length = self.random.pick(&[0, 1, LONGEST_CERTIFICATE, LONGEST_CERTIFICATE + 1]);
@@ -230,7 +240,7 @@ impl Generator<PlayedStandIn> {
     }
 
     fn step(&mut self) {
-        match self.random.below(102) {
+        match self.random.below(106) {
             0..=3 => self.malformed(),
             4 => self.line(b"P".to_vec()),
             5..=7 => self.noise(),
@@ -270,6 +280,9 @@ impl Generator<PlayedStandIn> {
             97 | 98 => self.longest_lines(),
             99 => self.browse_in_blocks(),
             100 => self.lend_and_read_in_blocks(),
+            101 => self.write(),
+            102 => self.write_by_size(),
+            103 | 104 if self.near_its_end() => self.write_and_load(),
             _ => self.plain_delivery(),
         }
     }
@@ -362,7 +375,7 @@ impl Generator<PlayedStandIn> {
     }
 
     /// Wrong values until the code has no tries.
-    fn block(&mut self, pin: usize) {
+    pub(crate) fn block(&mut self, pin: usize) {
         for _ in 0..self.session.card().codes[pin].tries {
             self.call(b'C', &[0x00, 0x20, 0x00, pin as u8, 0x01, 0x00]);
         }
@@ -466,11 +479,11 @@ impl Generator<PlayedStandIn> {
 
     // Buffers
 
-    fn buffer(&mut self, length: usize) {
+    pub(crate) fn buffer(&mut self, length: usize) {
         self.line(format!("B{length}").into_bytes());
     }
 
-    fn large_buffer(&mut self) {
+    pub(crate) fn large_buffer(&mut self) {
         let any = self.random.between(SMALLEST_BUFFER, LARGEST_BUFFER);
         let length = self.random.pick(&[258, 258, 259, 260, 4095, 4096, 4096, any]);
         self.buffer(length);
@@ -508,9 +521,10 @@ impl Generator<PlayedStandIn> {
 
     fn plain_calls(&mut self) {
         for _ in 0..self.random.between(1, 3) {
-            match self.random.below(10) {
+            match self.random.below(11) {
                 0..=5 => self.plain_command(),
                 6..=8 => self.plain_delivery(),
+                9 => self.write(),
                 _ => self.line(b"P".to_vec()),
             }
         }
@@ -638,10 +652,23 @@ fn other_buffer(r: &mut Random) -> Vec<u8> {
     format!("B{}", r.pick(&texts)).into_bytes()
 }
 
+/// I with anything after it or before it, and i.
+fn other_image_line(r: &mut Random) -> Vec<u8> {
+    let n = r.between(1, 4);
+    let (any, image) = (r.bytes(n), Parts::valid(r).bytes());
+    let lines = [&b"i"[..], b"I ", b" I", b"I\r", b"I\t", b"I\0", b"II", b"IP", b"PI", b"I0", b"I00", b"I1115", b"IL"].map(<[u8]>::to_vec);
+    match r.below(8) {
+        0 => line_of(b'I', &any),
+        1 => line_of(b'I', &image),
+        2 => line_of(b'i', &image),
+        _ => r.pick(&lines),
+    }
+}
+
 /// Mostly over 4,096 characters, or of that length exactly. C and D also near
 /// 1,024, which is no limit here.
 fn too_long(r: &mut Random) -> Vec<u8> {
-    let letter = r.pick(b"LLASCDBPX");
+    let letter = r.pick(b"LLASCDBPIX");
     let over = r.pick(&[4096, 4097, 4097, 4098, 4099, 5001, 8193]);
     let far_over = r.pick(&[over, over, over, 65_535, 65_536, 65_537, 70_001]);
     let length = match letter {

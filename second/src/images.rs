@@ -60,20 +60,40 @@ impl Lengths {
 impl Parts {
     /// A valid image of any shape; the shortest and the longest now and then.
     pub fn valid(r: &mut Random) -> Parts {
-        let (lengths, key_sets) = match r.below(40) {
-            0 => (Lengths::Shortest, &KEY_SETS[..4]),
-            1 => (Lengths::Longest, &KEY_SETS[8..]),
-            _ => (Lengths::Any, &KEY_SETS[..]),
-        };
+        match r.below(40) {
+            0 => Parts::shortest(r),
+            1 => Parts::longest(r),
+            _ => {
+                let records = match r.below(10) {
+                    0 => Lengths::Shortest,
+                    1 => Lengths::Longest,
+                    _ => Lengths::Any,
+                };
+                Parts::with_lengths(r, Lengths::Any, records, &KEY_SETS)
+            }
+        }
+    }
+
+    /// A valid image of 84 bytes.
+    pub fn shortest(r: &mut Random) -> Parts {
+        Parts::with_lengths(r, Lengths::Shortest, Lengths::Shortest, &KEY_SETS[..4])
+    }
+
+    /// A valid image of 1,115 bytes.
+    pub fn longest(r: &mut Random) -> Parts {
+        Parts::with_lengths(r, Lengths::Longest, Lengths::Longest, &KEY_SETS[8..])
+    }
+
+    fn with_lengths(r: &mut Random, codes: Lengths, records: Lengths, key_sets: &[&[u16]]) -> Parts {
         let keys = r.pick(key_sets).to_vec();
         let mut parts = Parts {
             code_count: 3,
-            codes: (0..3).map(|number| valid_code(r, number, lengths)).collect(),
+            codes: (0..3).map(|number| valid_code(r, number, codes)).collect(),
             key_count: keys.len() as u8,
             references: r.bytes(REFERENCES),
             reference_count: REFERENCES as u8,
             record_count: RECORDS as u8,
-            records: valid_records(r, lengths),
+            records: valid_records(r, records),
             left_over: Vec::new(),
             keys,
         };
@@ -170,11 +190,6 @@ fn valid_code(r: &mut Random, number: usize, lengths: Lengths) -> CodePart {
 }
 
 fn valid_records(r: &mut Random, lengths: Lengths) -> Vec<RecordPart> {
-    let lengths = match r.below(10) {
-        0 => Lengths::Shortest,
-        1 => Lengths::Longest,
-        _ => lengths,
-    };
     let record = |_| {
         let length = lengths.pick(r, 1, LONGEST_RECORD);
         RecordPart { length: length as u8, bytes: r.bytes(length) }
@@ -308,4 +323,30 @@ pub fn filled_up(r: &mut Random, length: usize) -> Vec<u8> {
     let mut image = Parts::valid(r).bytes();
     image.extend(r.bytes(length - image.len()));
     image
+}
+
+/// An input of so many bytes is a very long one.
+pub const VERY_LONG: usize = 10_000_000;
+
+/// The shortest and the longest image, what comes next to them, and very long inputs: of these,
+/// 27 where they begin with an image that loads, else the number of the fault at their beginning.
+pub fn extremes(r: &mut Random) -> Vec<Vec<u8>> {
+    let ends = [sample::image(), Parts::shortest(r).bytes(), Parts::longest(r).bytes()];
+    let mut images = vec![vec![]];
+    for image in &ends {
+        images.push(image.clone());
+        images.push(image[..image.len() - 1].to_vec());
+        images.push(followed(image, &[0]));
+        images.push(followed(image, image));
+        images.push(followed(image, &vec![0; VERY_LONG]));
+        images.push(followed(image, &r.bytes(VERY_LONG)));
+    }
+    for fault in [Fault::CodeCount, Fault::RecordLength(RECORDS - 1)] {
+        images.push(followed(&with_fault(r, fault), &vec![1; VERY_LONG]));
+    }
+    images
+}
+
+fn followed(image: &[u8], more: &[u8]) -> Vec<u8> {
+    [image, more].concat()
 }

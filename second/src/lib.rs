@@ -3,10 +3,12 @@
 pub mod answers;
 pub mod apdu;
 pub mod card;
+pub mod comparison;
 pub mod generate;
 pub mod generate_reading;
 pub mod generate_stand_in;
 pub mod generate_transcript;
+pub mod generate_writing;
 pub mod hex;
 pub mod image;
 pub mod images;
@@ -22,7 +24,9 @@ pub mod stand_in;
 pub mod state;
 pub mod status;
 pub mod transcript;
+pub mod writer;
 
 pub use card::{command, delivery, power_reset, Certificates, Outcome};
 pub use image::load;
 pub use state::CardState;
+pub use writer::write_image;

@@ -3,7 +3,7 @@
 use crate::lines::{run, LineProgram};
 use crate::sample;
 use std::fs::{self, File};
-use std::io::{self, Write};
+use std::io::{self, Read, Write};
 use std::os::fd::AsFd;
 use std::process::{exit, ExitCode};
 use std::env;
@@ -38,6 +38,18 @@ fn report(name: &str, ended: io::Result<()>) -> ExitCode {
             ExitCode::FAILURE
         }
     }
+}
+
+/// NAME < IMAGE: writes what `answer` makes of the whole input.
+pub fn run_on_image(name: &str, answer: fn(&[u8]) -> Vec<u8>) -> ExitCode {
+    let mut image = Vec::new();
+    let read = io::stdin().lock().read_to_end(&mut image);
+    let written = read.and_then(|_| {
+        let mut out = io::stdout().lock();
+        out.write_all(&answer(&image))?;
+        out.flush()
+    });
+    report(name, written)
 }
 
 /// NAME SEED N: the first N lines that `lines` makes of the seed and the number.

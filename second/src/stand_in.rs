@@ -2,7 +2,7 @@
 
 use crate::lines::LineProgram;
 use crate::session::Session;
-use crate::{hex, load, sample, CardState};
+use crate::{hex, load, sample, write_image, CardState};
 
 pub const LARGEST_BUFFER: usize = 4096;
 
@@ -50,6 +50,14 @@ impl StandIn {
         self.session.card = card;
         if number == 0 { "L".to_string() } else { format!("F{number}") }
     }
+
+    /// I and the image of the card as it stands, or the writer's refusal.
+    fn write(&mut self) -> String {
+        match write_image(&self.session.card, &mut self.session.buffer) {
+            Ok(length) => format!("I{}", hex::encode(&self.session.buffer[..length])),
+            Err(refusal) => format!("H{refusal}"),
+        }
+    }
 }
 
 impl LineProgram for StandIn {
@@ -60,6 +68,7 @@ impl LineProgram for StandIn {
         let (letter, text) = line.split_first()?;
         match letter {
             b'L' => return Some(self.load(&hex::decode(text)?)),
+            b'I' if text.is_empty() => return Some(self.write()),
             b'A' => self.session.authentication = hex::decode(text)?,
             b'S' => self.session.signature = hex::decode(text)?,
             b'B' => self.session.buffer.resize(buffer_length(text)?, 0),

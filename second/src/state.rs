@@ -211,13 +211,14 @@ impl CardState {
         self.job = None;
     }
 
+    /// Wish 3: it "keeps the image's ranges and key order too"; so a personal record has 1 to 64 bytes.
     pub fn is_good(&self) -> bool {
         let codes = (0..3).all(|number| self.codes[number].is_good(number));
         let keys = (2..=4).contains(&self.key_count)
             && self.present_keys().windows(2).all(|pair| pair[0] < pair[1])
             && self.present_keys().iter().all(|key| key_class(*key).is_some())
             && self.keys[self.key_count..].iter().all(|key| *key == 0);
-        let records = self.records.iter().all(|record| record.is_good() && record.length >= 1);
+        let records = self.records.iter().all(|record| record.length >= 1 && record.is_good());
         if !(codes && keys && records) {
             return false;
         }

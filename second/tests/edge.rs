@@ -1,7 +1,10 @@
 //! Load faults 21 to 27, edge refusals and good states.
 
+mod states;
+
 use second::state::*;
-use second::{command, delivery, load, power_reset, sample, CardState, Certificates, Outcome};
+use second::{command, delivery, load, power_reset, sample, write_image, CardState, Certificates, Outcome};
+use states::bad_states;
 
 fn changed(at: usize, byte: u8) -> u8 {
     let mut image = sample::image();
@@ -97,37 +100,32 @@ fn edge_refusals_come_in_order() {
 }
 
 #[test]
-fn bad_states() {
-    let faults: [fn(&mut CardState); 17] = [
-        |c| c.codes[PIN1].value.length = 3,
-        |c| c.codes[PIN1].value.place[4] = 0x31,
-        |c| c.codes[PIN2].value.place[0] = 0x3A,
-        |c| c.codes[PUK].tries = 4,
-        |c| (c.codes[PUK].verified, c.codes[PUK].tries) = (true, 2),
-        |c| c.keys[3] = 0x1200,
-        |c| c.key_count = 1,
-        |c| c.references[9] = 0x12,
-        |c| c.records[15].length = 0,
-        |c| c.file = Some(File::KeyReferences),
-        |c| (c.directory, c.file) = (Directory::Eeee, Some(File::CodeRecords)),
-        |c| c.environment = 2,
-        |c| c.choices[2] = 0x0100,
-        |c| c.choices[0] = 0x1200,
-        |c| c.held.place[255] = 1,
-        |c| c.job = Some(Job { kind: 3, key: 0x0100, le: None }),
-        |c| (c.job, c.chain.length) = (Some(Job { kind: 3, key: 0x1100, le: None }), 1),
-    ];
-    for (number, fault) in faults.iter().enumerate() {
-        let mut card = load(&sample::image()).0;
-        fault(&mut card);
-        assert!(!card.is_good(), "{number}");
+fn bad_states_are_refused_by_every_call() {
+    let lent = Certificates { authentication: &[0x30], signature: &[0x30] };
+    for (name, bad) in bad_states() {
+        let mut card = bad.clone();
+        let mut buffer = [0xEE; 2000];
+        assert!(!card.is_good(), "{name}");
+        assert_eq!(command(&mut card, &[0x00, 0xA4, 0x00, 0x0C], lent, &mut buffer), Outcome::Refused(1), "{name}");
+        assert_eq!(delivery(&mut card, &[0; 256], &mut buffer), Outcome::Refused(1), "{name}");
+        assert_eq!(power_reset(&mut card), 1, "{name}");
+        assert_eq!(write_image(&card, &mut buffer), Err(1), "{name}");
+        assert_eq!((card, buffer), (bad, [0xEE; 2000]), "{name}");
     }
+}
+
+#[test]
+fn good_states() {
     let mut card = load(&sample::image()).0;
     card.job = Some(Job { kind: 2, key: 0x0100, le: Some(256) });
     card.environment = 6;
     assert!(card.is_good());
-    card.job = Some(Job { kind: 2, key: 0x0100, le: Some(257) });
-    assert!(!card.is_good());
+    for record in 0..RECORDS {
+        for length in 1..=LONGEST_RECORD {
+            card.records[record] = Bytes::of(&vec![0; length]);
+            assert!(card.is_good(), "{record} {length}");
+        }
+    }
 }
 
 #[test]

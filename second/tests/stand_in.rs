@@ -172,7 +172,7 @@ fn the_edge_drops_nothing() {
 
 #[test]
 fn every_letter_has_4096_characters() {
-    for letter in ['L', 'A', 'S', 'C', 'D', 'B', 'P', 'X'] {
+    for letter in ['L', 'A', 'S', 'C', 'D', 'B', 'P', 'I', 'X'] {
         for length in [4096, 4097, 4098, 4099, 100_000] {
             check(&[(&format!("{letter}{}", "0".repeat(length - 1)), "?"), (VERIFY_PIN1, "R9000")]);
         }

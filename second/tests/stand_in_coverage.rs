@@ -173,7 +173,7 @@ fn certificates_and_buffers_have_every_length_that_matters() {
     };
     let lengths = |letter: &'static str, list: &'static [usize]| list.iter().map(move |length| (letter.to_string(), *length));
     let certificates = &[0, 1, 2, 200, 254, 255, 256, 257, 400, 510, 1535, 1536, 1537, 2047];
-    let buffers = &[0, 2, 255, 256, 257, 258, 259, 260, 4095, 4096];
+    let buffers = &[0, 2, 255, 256, 257, 258, 259, 260, 1114, 1115, 1116, 4095, 4096];
     check_all(count(lent), lengths("A", certificates).chain(lengths("S", certificates)).chain(lengths("B", buffers)));
 }
 
@@ -189,7 +189,8 @@ fn lines_have_every_length_that_matters() {
     for letter in ['L', 'A', 'S', 'C', 'D'] {
         expected.extend([(letter, 4095, false), (letter, 4096, true), (letter, 4097, true), (letter, 4098, true)]);
     }
-    expected.extend([('C', 1025, false), ('D', 1025, false), ('B', 4098, true), ('P', 4098, true), ('X', 4098, true), (' ', 0, true), ('+', 0, true)]);
+    expected.extend(['B', 'P', 'I', 'X'].map(|letter| (letter, 4098, true)));
+    expected.extend([('C', 1025, false), ('D', 1025, false), (' ', 0, true), ('+', 0, true)]);
     check_all(count(long), expected);
 }
 
@@ -208,7 +209,7 @@ fn refusals_come_in_the_midst_of_everything() {
     };
     let mut expected = Vec::new();
     for state in ["held", "chain", "job", "open", "PUK blocked"] {
-        expected.extend(["H2", "H3", "H5", "A", "S", "B", "L", "P", "?"].map(|answer| (state, answer.to_string())));
+        expected.extend(["H2", "H3", "H5", "A", "S", "B", "L", "P", "I0", "?"].map(|answer| (state, answer.to_string())));
     }
     expected.retain(|(state, answer)| (*state, answer.as_str()) != ("job", "H5"));
     check_all(count(met), expected);

@@ -12,6 +12,7 @@ pub mod DeliveryCases
 pub mod EdgeCases
 pub mod StateCases
 pub mod ImageCases
+pub mod WriterCases
 pub mod NumberCases
 pub mod CountCases
 pub mod QueryCases

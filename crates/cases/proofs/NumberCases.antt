@@ -1,4 +1,4 @@
--- The numbers are document 01's.
+-- The numbers are the papers'.
 use mathlib.Core.Path.{refl}
 use Rattle.cases.specs.NumberCases.{NumbersShown}
 
@@ -9,6 +9,7 @@ numbers-shown = record {
   faults = refl;
   loads = refl;
   replies = refl;
+  writes = refl;
   forms = refl;
   named = refl;
 }

@@ -21,6 +21,8 @@ use Rattle.rules.specs.Delivery.{deliver}
 use Rattle.rules.specs.Edge.{responseIn, written, command, delivery, powerReset}
 use Rattle.rules.specs.Image.{byteIf, bytesIf, readCode, codeSection, readKey, readKeys, keySection, referenceSection}
 use Rattle.rules.specs.Image.{readPersonal, readRecords, personalSection, end, readCard, zeroCard, loaded, load}
+use Rattle.rules.specs.Writer.{codeImage, codesImage, keysAmong, keyBytes, keysImage, referencesImage, recordImage}
+use Rattle.rules.specs.Writer.{recordsImage, personalImage, imageOf, write}
 use Rattle.rules.specs.Counting.{step, returnedStatus, returnedKind, formSends, sentBy, readOff, wrongStatus}
 use Rattle.rules.specs.Counting.{okStatus, queries, verifies, changes, presentsPuk, unblocks, presents}
 use Rattle.rules.specs.Reading.{returnedData, wholeBlock, readBlocks, lastWord}
@@ -29,5 +31,5 @@ use Rattle.rules.specs.Cases.{onCard}
 use Rattle.cases.specs.SecondCard.{secondCard, secondImage}
 
 unfoldable pub rules : Unit {0}
-unfolding blank filled goodRoom padded cannotPad pad beforeZero enciphered strip least allowed ofClass present activeKey keyFor newSession filesIn certificateOf pukRecord pinRecord counterRecord personalRecord recordCount recordOf goodCode goodCodes goodReferences goodRecords goodProfile goodSelection goodEnvironment goodJob goodSession good parse moreBytes give select readRecord readStatus readBinary getResponse verdict judged queried verify replaced change unblockByVerifiedPuk unblockByPresentedPuk resetRetry prefixed sha2 isDigest setEnvironment kindChosen chooseKey internalAuthenticate sign decipher instruction parameters lengths ownRules knownInstruction namedIn judgeNamed judgeHeader judgeForm judge deliver responseIn written command delivery powerReset byteIf bytesIf readCode codeSection readKey readKeys keySection referenceSection readPersonal readRecords personalSection end readCard zeroCard loaded load step returnedStatus returnedKind formSends sentBy readOff wrongStatus okStatus queries verifies changes presentsPuk unblocks presents returnedData wholeBlock readBlocks lastWord sampleCard sampleImage onCard secondCard secondImage
+unfolding blank filled goodRoom padded cannotPad pad beforeZero enciphered strip least allowed ofClass present activeKey keyFor newSession filesIn certificateOf pukRecord pinRecord counterRecord personalRecord recordCount recordOf goodCode goodCodes goodReferences goodRecords goodProfile goodSelection goodEnvironment goodJob goodSession good parse moreBytes give select readRecord readStatus readBinary getResponse verdict judged queried verify replaced change unblockByVerifiedPuk unblockByPresentedPuk resetRetry prefixed sha2 isDigest setEnvironment kindChosen chooseKey internalAuthenticate sign decipher instruction parameters lengths ownRules knownInstruction namedIn judgeNamed judgeHeader judgeForm judge deliver responseIn written command delivery powerReset byteIf bytesIf readCode codeSection readKey readKeys keySection referenceSection readPersonal readRecords personalSection end readCard zeroCard loaded load codeImage codesImage keysAmong keyBytes keysImage referencesImage recordImage recordsImage personalImage imageOf write step returnedStatus returnedKind formSends sentBy readOff wrongStatus okStatus queries verifies changes presentsPuk unblocks presents returnedData wholeBlock readBlocks lastWord sampleCard sampleImage onCard secondCard secondImage
 rules = tt

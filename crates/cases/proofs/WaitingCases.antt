@@ -1,6 +1,6 @@
--- Jobs wait, and empty records are read, as the cases expect.
+-- Jobs wait as the cases expect.
 use mathlib.Core.Path.{refl}
-use Rattle.cases.specs.WaitingCases.{waitingJobs, JobsWait, signatureKinds, SignaturesTold, emptyRecords, EmptyRecordsShown}
+use Rattle.cases.specs.WaitingCases.{waitingJobs, JobsWait, signatureKinds, SignaturesTold}
 use Rattle.cases.proofs.Rules.{rules}
 
 pub jobs-wait : JobsWait
@@ -10,7 +10,3 @@ jobs-wait = refl
 pub signatures-told : SignaturesTold
 unfolding rules signatureKinds
 signatures-told = refl
-
-pub empty-records-shown : EmptyRecordsShown
-unfolding rules emptyRecords
-empty-records-shown = refl

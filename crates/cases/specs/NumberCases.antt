@@ -1,4 +1,4 @@
--- Document 01's numbers and values for the cases of the code's enums.
+-- Document 01's numbers and values, and document 02's, for the cases of the code's enums.
 use mathlib.Core.Path.{_≡_}
 use mathlib.Core.List.{[], _∷_, map}
 use Rattle.rules.specs.declared.Header.{Header}
@@ -10,10 +10,11 @@ use Rattle.rules.specs.declared.Reply.the-variants.{Refused, Response, HandedOu
 use Rattle.rules.specs.declared.Fault.the-variants.{EndsEarly, WrongCount, BadCode, BadKey, BadReference}
 use Rattle.rules.specs.declared.Fault.the-variants.{RecordLength, LeftOver}
 use Rattle.rules.specs.declared.LoadResult.the-variants.{Accepted, Faulty}
+use Rattle.rules.specs.declared.WriteResult.the-variants.{NotWritten, Written}
 use Rattle.rules.specs.Numbers.{kindNumber, refusalNumber, edge, responded, handedOut, wasReset, returned}
 use Rattle.rules.specs.declared.Named.the-variants.{Is, Nothing}
 use Rattle.rules.specs.declared.Command.the-variants.{Verify}
-use Rattle.rules.specs.Numbers.{faultNumber, loadNumber, form, refused, lengthForm, names, namesNone, naming}
+use Rattle.rules.specs.Numbers.{faultNumber, loadNumber, unwritten, wrote, wroteOf, form, refused, lengthForm, names, namesNone, naming}
 
 -- Some header.
 abbrev pub verifyHeader : Header
@@ -35,6 +36,10 @@ pub record NumbersShown : Type 0 where
   pub replies :
       map returned (Refused ShortBuffer ∷ Response 12 ∷ HandedOut Sign 0x0200 ∷ WasReset ∷ [])
       ≡ edge 2 ∷ responded 12 ∷ handedOut 2 0x0200 ∷ wasReset ∷ []
+  -- what the writer returns: an edge refusal's number; the image's length
+  pub writes :
+      map wroteOf (NotWritten BadState ∷ NotWritten ShortBuffer ∷ Written 84 ∷ Written 1115 ∷ [])
+      ≡ unwritten 1 ∷ unwritten 2 ∷ wrote 84 ∷ wrote 1115 ∷ []
   -- the length form: a header and where its data start, or 6700
   pub forms : map lengthForm (Form verifyHeader 5 ∷ Malformed ∷ []) ≡ form verifyHeader 5 ∷ refused 0x6700 ∷ []
   -- the command that a header names, or 6A86

@@ -17,7 +17,7 @@ use Rattle.rules.specs.Counting.{PowerReset, step}
 use Rattle.rules.specs.Sample.{sampleCard, references}
 use Rattle.rules.specs.Cases.{send, deliverTo}
 use Rattle.cases.specs.SecondCard.{secondCard}
-use Rattle.cases.specs.Turns.{fives, nines, withSession, withCodes, secondOpen, at, inEnvironment, chained}
+use Rattle.cases.specs.Turns.{fives, nines, counted, withSession, withCodes, secondOpen, at, inEnvironment, chained}
 use Rattle.cases.specs.Turns.{waiting}
 
 -- What an empty command, an empty delivery and a reset return.
@@ -119,11 +119,12 @@ allowedCodes n =
     ∷ codeWith (nines n ++ zeros (12 - n)) n 1 false
     ∷ []
 
--- Personal records that are bad: an array of 63, of 65; more than 64 bytes; an unused place that is not zero, the first
--- and the last.
+-- Personal records that are bad: no byte; an array of 63, of 65; more than 64 bytes; an unused place that is not zero,
+-- the first and the last.
 abbrev pub badRecords : List Record
 badRecords =
-    record { bytes = zeros 63; len = 1 }
+    record { bytes = zeros 64; len = 0 }
+    ∷ record { bytes = zeros 63; len = 1 }
     ∷ record { bytes = zeros 65; len = 1 }
     ∷ record { bytes = fives 64; len = 65 }
     ∷ record { bytes = 0x20 ∷ 0x20 ∷ zeros 62; len = 1 }
@@ -147,10 +148,16 @@ bad =
     ∷ withReferences (naming 0x11 0x00)
     -- personal records, the first and the last
     ∷ map (withRecord 1) badRecords ++ map (withRecord 16) badRecords
-    -- two codes; fifteen records; two key marks, none of them of the active authentication key
+    -- each record between them with no byte
+    ++ map (λ n. withRecord n (record { bytes = zeros 64; len = 0 })) (counted 14 2)
+    -- two codes, four; fifteen records, seventeen; two key marks, three, five
     ++ withCodes sampleCard (take 2 (sampleCard .codes))
+    ∷ withCodes sampleCard (sampleCard .codes ++ codeWith (fives 12) 12 3 false ∷ [])
     ∷ withProfile (profileOf (sampleCard .profile .keys) references (take 15 (sampleCard .profile .personal)))
+    ∷ withProfile (profileOf (sampleCard .profile .keys) references (replicate 17 (record { bytes = fives 64; len = 64 })))
     ∷ withProfile (profileOf (take 2 (sampleCard .profile .keys)) references (sampleCard .profile .personal))
+    ∷ withProfile (profileOf (take 3 (sampleCard .profile .keys)) references (sampleCard .profile .personal))
+    ∷ withProfile (profileOf (sampleCard .profile .keys ++ false ∷ []) references (sampleCard .profile .personal))
     -- a directory that is none, also with a file of EEEEh
     ∷ at 0x0000 0x0000 sampleCard
     ∷ at 0xEE00 0x5044 sampleCard
@@ -217,8 +224,8 @@ secondChoices n choices = withSession secondCard (withEnvironment newSession n c
 unfoldable pub idle : List Card
 idle =
     map withPuk (allowedCodes 8) ++ map withPin1 (allowedCodes 4) ++ map withPin2 (allowedCodes 5)
-    -- personal records of no byte and of 64
-    ++ withRecord 1 (record { bytes = zeros 64; len = 0 })
+    -- personal records of one byte, which may be zero, and of 64
+    ++ withRecord 1 (record { bytes = zeros 64; len = 1 })
     ∷ withRecord 16 (record { bytes = fives 64; len = 64 })
     -- every directory and file
     ∷ at 0x3F00 0x0016 sampleCard

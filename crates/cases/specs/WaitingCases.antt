@@ -1,20 +1,15 @@
 -- Document 01, "What the card has": the waiting job with its Le. A job waits as it was handed out: its kind, its key and its Le.
--- Of the jobs handed out, those of kind 2 are signatures. And docs/DECISIONS.md: an empty personal record, which no image gives,
--- is 9000 alone.
+-- Of the jobs handed out, those of kind 2 are signatures.
 use Prim.Native.Nat.{ℕ}
 use mathlib.Core.Path.{_≡_}
 use mathlib.Core.Bool.{Bool, true, false}
 use mathlib.Core.List.{List, [], _∷_, map}
-use lib.ListN.{replicate, set}
 use Rattle.rules.specs.declared.Card.{Card}
 use Rattle.rules.specs.declared.Job.{Job}
-use Rattle.rules.specs.Session.{esteidDirectory}
 use Rattle.rules.specs.Numbers.{handedOut}
 use Rattle.rules.specs.Counting.{Call, after, handsSignature}
-use Rattle.rules.specs.Sample.{sampleCard}
-use Rattle.rules.specs.Cases.{signSha1, sha1Digest, chooseKeyOf, decipherPart, sw, fresh}
-use Rattle.cases.specs.Turns.{Run, _⇒_, from, Shown, bare, sendingWithLe, secondOpen, at, inEnvironment, chained}
-use Rattle.cases.specs.Turns.{recordRead}
+use Rattle.rules.specs.Cases.{signSha1, sha1Digest, chooseKeyOf, decipherPart}
+use Rattle.cases.specs.Turns.{sendingWithLe, secondOpen, inEnvironment, chained}
 
 -- The job that waits after some calls.
 abbrev pub waitingAfter : Card → List Call → Job
@@ -48,25 +43,3 @@ signatureKinds =
 
 abbrev pub SignaturesTold : Type 0
 SignaturesTold = signatureKinds ≡ false ∷ true ∷ false ∷ []
-
--- The sample card in 5044h, with no byte in its second record.
-abbrev pub emptyRecord : Card
-emptyRecord =
-    record {
-      codes = sampleCard .codes;
-      profile = record {
-        keys = sampleCard .profile .keys;
-        references = sampleCard .profile .references;
-        personal = set (sampleCard .profile .personal) 1 (record { bytes = replicate 64 0x00; len = 0 });
-      };
-      session = at esteidDirectory 0x5044 sampleCard .session;
-    }
-
-unfoldable pub emptyRecords : List Run
-emptyRecords =
-    -- B2 of an empty record, with Le and without
-    from emptyRecord (recordRead 2 ⇒ sw 0x9000 ∷ bare 0xB2 0x02 0x04 ⇒ sw 0x9000 ∷ []) fresh
-    ∷ []
-
-abbrev pub EmptyRecordsShown : Type 0
-EmptyRecordsShown = Shown emptyRecords

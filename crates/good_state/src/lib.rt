@@ -51,12 +51,14 @@ fn three(choices: &[u16]) -> bool
     choices.len() == 3
 }
 
+// A personal record, which has at least one byte.
 fn good_record(r: Record) -> bool
     ensures { λ ok. ⌜ ok ≡ goodRecord r ⌝ }
 {
     let bytes = r.bytes;
     let len = numbers::wide(r.len);
-    octets::good_room(64, &bytes, len)
+    let room = octets::good_room(64, &bytes, len);
+    (1 <= len) & room
 }
 
 // The personal records.

@@ -5,9 +5,10 @@ use mathlib.Core.List.{[], _∷_, _++_}
 use Prim.Native.Nat.{ℕ, suc, _≤_}
 use native.Mathlib.Omega.{arith}
 use lib.Dec.{eqb}
-use lib.IntN.{pos}
+use lib.IntN.{ℤ, pos, negsuc}
 use lib.ListN.{length, take, length-take}
 use lib.Seq.{take-all, take-append-le}
+use Rattle.libc.specs.Io.{Moved}
 use Rattle.octets.specs.Octets.{Bytes, blank, filled}
 use Rattle.octets.proofs.Tests.{by-test}
 use Rattle.requests.specs.declared.Dialect.{Dialect}
@@ -19,12 +20,18 @@ use Rattle.transcripts.specs.Consoles.{programOf, consoleFor, Holds, Reads}
 use Rattle.transcripts.proofs.Runs.{at-feed, at-other, at-end, run-append, nextLine, oneMore}
 use Rattle.streams.specs.declared.Reading.{Reading}
 use Rattle.line_programs.specs.declared.Stopped.{Stopped}
-use Rattle.line_programs.specs.Programs.{IsReading, SomeRead, Ran}
+use Rattle.streams.specs.Streams.{IsReading}
+use Rattle.line_programs.specs.Programs.{SomeRead, Ran}
 
 -- A string at the front of its room is read back.
 front : (n : ℕ) (b : Bytes) → take (length b) (filled n b) ≡ b
 unfolding filled
 front n b = take-append-le (length b) b _ (omega arith) ∙ take-all (length b) b (omega arith)
+
+-- What the system may answer for a room, it may answer for one no smaller.
+pub moved-within : (n m : ℕ) (got : ℤ) → n ≤ m → Moved n got → Moved m got
+moved-within n m (pos k) h e = omega arith
+moved-within n m (negsuc k) h e = e
 
 -- Where the loop has used up its turns: a reading of one byte.
 abbrev pub byte : Reading

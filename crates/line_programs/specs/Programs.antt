@@ -6,13 +6,8 @@ use Rattle.octets.specs.Octets.{Bytes}
 use Rattle.requests.specs.declared.Dialect.{Dialect}
 use Rattle.transcripts.specs.Transcript.{Program, run, start, finished}
 use Rattle.transcripts.specs.Consoles.{consoleFor, Holds}
-use Rattle.streams.specs.declared.Reading.{Reading}
-use Rattle.streams.specs.Streams.{readingFor}
+use Rattle.streams.specs.Streams.{IsReading}
 use Rattle.line_programs.specs.declared.Stopped.{Stopped}
-
--- A reading as it follows from what the system answered.
-abbrev pub IsReading : Reading → Type 0
-IsReading r = r ≡ readingFor (r .got) (r .interrupted)
 
 -- Some input was read from a program on, and the code holds the program after it.
 pub record SomeRead (d : Dialect) (p : Program) (l a s : Bytes) (r : Stopped) : Type 0 where

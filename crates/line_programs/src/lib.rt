@@ -6,10 +6,13 @@ use requests::Dialect;
 use streams::Reading;
 use transcripts::Console;
 use transcripts::Progress;
+ghost use Prim.Native.Nat.{_*_, _≤_};
 ghost use lib.ListN.{take};
-ghost use Rattle.transcripts.specs.Transcript.{run};
+ghost use Rattle.libc.specs.Io.{Moved};
+ghost use Rattle.transcripts.specs.Transcript.{run, mostText};
 ghost use Rattle.transcripts.specs.Consoles.{programOf, Holds, Reads};
-ghost use Rattle.line_programs.specs.Programs.{IsReading, SomeRead, Ran};
+ghost use Rattle.streams.specs.Streams.{IsReading};
+ghost use Rattle.line_programs.specs.Programs.{SomeRead, Ran};
 
 // One more reading: what came, the program after it, and whether to go on.
 pub struct Turn {
@@ -23,7 +26,28 @@ fn written(output: &[u8], n: usize) -> bool {
     streams::written_or_said(io::write_all(STDOUT_FILENO, octets::part(output, 0, n)))
 }
 
-// Reads once, and answers what came. Each of 1,006 bytes gives at most 521 characters (`ShortOutput`), so that 524,288 hold all.
+// How many bytes a program reads at once. Each gives at most 518 characters, or 2,232 of the stand-in (`ShortOutput`), so that 524,288
+// hold all.
+fn at_once(dialect: Dialect) -> usize
+    ensures { λ r. ⌜ mostText dialect * r ≤ 524288 ⌝ }
+{
+    match dialect {
+        Dialect::Transcript => 1006,
+        Dialect::StandIn => 234,
+    }
+}
+
+// Reads once, at most so many bytes, to the front of the input.
+fn read_within(input: &mut [u8], most: usize) -> Reading
+    ensures { λ r. ⌜ IsReading r × Moved most (r .got) ⌝ }
+{
+    if most < input.len() {
+        return streams::read(&mut input[..most]);
+    }
+    streams::read(input)
+}
+
+// Reads once, and answers what came.
 fn read_some(
     dialect: Dialect,
     console: Console,
@@ -36,7 +60,7 @@ fn read_some(
     ensures { λ r. ⌜ IsReading (r .reading) ⌝ }
     ensures { λ r. ⌜ Reads (run dialect (programOf dialect console (now (line .entry)) (now (authentication .entry)) (now (signature .entry))) (take (r .reading .count) (now (input .exit)))) (now (output .entry)) (now (line .exit)) (now (authentication .exit)) (now (signature .exit)) (now (output .exit)) (r .progress) ⌝ }
 {
-    let reading = streams::read(input);
+    let reading = read_within(input, at_once(dialect));
     let progress = transcripts::read(
         dialect,
         console,

@@ -1,4 +1,4 @@
--- What a line of output says: of what a call returned, and of what load answered.
+-- What a line of output says: of what a call returned, and of what load and the writer answered.
 use Prim.Native.Nat.{ℕ, _+_, _/_, _%_}
 use mathlib.Core.Bool.{cond}
 use mathlib.Core.List.{[], _∷_, _++_}
@@ -6,7 +6,7 @@ use lib.ListN.{take}
 use lib.Dec.{eqb}
 use Rattle.octets.specs.Octets.{Bytes}
 use Rattle.hex.specs.Hex.{hexOf}
-use Rattle.rules.specs.Numbers.{Returned, edge, responded, handedOut, wasReset}
+use Rattle.rules.specs.Numbers.{Returned, edge, responded, handedOut, wasReset, Wrote, unwritten, wrote}
 use Rattle.requests.specs.declared.Dialect.{Dialect}
 use Rattle.requests.specs.declared.Dialect.the-variants.{Transcript, StandIn}
 
@@ -30,3 +30,8 @@ replyText d (edge n) buffer = 0x48 ∷ numeral n ∷ []
 -- L for an image that loads, else F and the load number, which has two digits.
 unfoldable pub loadText : ℕ → Bytes
 loadText n = cond (eqb n 0) (0x4C ∷ []) (0x46 ∷ numeral (n / 10) ∷ numeral (n % 10) ∷ [])
+
+-- I and the image in the same hex; H and the edge number.
+unfoldable pub savedText : Wrote → Bytes → Bytes
+savedText (wrote n) buffer = 0x49 ∷ hexOf (take n buffer)
+savedText (unwritten n) buffer = 0x48 ∷ numeral n ∷ []

@@ -5,14 +5,15 @@ use rules::JobKind;
 use rules::LoadResult;
 use rules::Refusal;
 use rules::Reply;
+use rules::WriteResult;
 ghost use mathlib.Core.Path.{_≡_};
 ghost use mathlib.Core.List.{[], _∷_, _++_};
 ghost use lib.ListN.{take};
 ghost use Rattle.hex.specs.Hex.{hexOf};
-ghost use Rattle.rules.specs.Numbers.{kindNumber, refusalNumber, returned, handedOut, faultNumber, loadNumber};
+ghost use Rattle.rules.specs.Numbers.{kindNumber, refusalNumber, returned, handedOut, faultNumber, loadNumber, wroteOf};
 ghost use Rattle.requests.specs.Requests.{lineFeed};
-ghost use Rattle.line_texts.specs.Texts.{numeral, blockText, replyText, loadText};
-ghost use Rattle.line_texts.specs.Puts.{Put};
+ghost use Rattle.writing.specs.Puts.{Put};
+ghost use Rattle.line_texts.specs.Texts.{numeral, blockText, replyText, loadText, savedText};
 
 // The numeral of a refusal's number, and of a kind of job.
 fn refusal_numeral(refusal: Refusal) -> u8
@@ -37,19 +38,12 @@ fn kind_numeral(kind: JobKind) -> u8
     }
 }
 
-// Writes a text from index `at` on, as much of it as fits, and answers the place behind it.
-pub fn put(output: &mut [u8], at: usize, text: &[u8]) -> usize
-    ensures { λ r. ⌜ Put (now (output .entry)) at (now (text .entry)) (now (output .exit)) r ⌝ }
+// A letter, and the first n bytes of a buffer.
+fn put_lettered(letter: u8, n: usize, buffer: &[u8], output: &mut [u8], at: usize) -> usize
+    ensures { λ r. ⌜ Put (now (output .entry)) at (letter ∷ hexOf (take n (now (buffer .entry)))) (now (output .exit)) r ⌝ }
 {
-    writing::copy_at(output, at, text);
-    numbers::sum_within(at, text.len(), output.len())
-}
-
-// R and the response.
-fn put_response(n: usize, buffer: &[u8], output: &mut [u8], at: usize) -> usize
-    ensures { λ r. ⌜ Put (now (output .entry)) at (0x52 ∷ hexOf (take n (now (buffer .entry)))) (now (output .exit)) r ⌝ }
-{
-    let start = put(output, at, b"R");
+    let text = [letter];
+    let start = writing::put(output, at, &text);
     hex::hex_at(output, start, octets::part(buffer, 0, n))
 }
 
@@ -58,9 +52,9 @@ fn put_block(dialect: Dialect, buffer: &[u8], output: &mut [u8], at: usize) -> u
     ensures { λ r. ⌜ Put (now (output .entry)) at (blockText dialect (now (buffer .entry))) (now (output .exit)) r ⌝ }
 {
     match dialect {
-        Dialect::Transcript => put(output, at, b""),
+        Dialect::Transcript => writing::put(output, at, b""),
         Dialect::StandIn => {
-            let start = put(output, at, b" ");
+            let start = writing::put(output, at, b" ");
             hex::hex_at(output, start, octets::part(buffer, 0, 256))
         }
     }
@@ -78,7 +72,7 @@ fn put_job(
     ensures { λ r. ⌜ Put (now (output .entry)) at (replyText dialect (handedOut (kindNumber kind) key) (now (buffer .entry))) (now (output .exit)) r ⌝ }
 {
     let head = [b'J', kind_numeral(kind), b' '];
-    let named = put(output, at, &head);
+    let named = writing::put(output, at, &head);
     let bytes = [numbers::high(key), numbers::low(key)];
     let coded = hex::hex_at(output, named, &bytes);
     put_block(dialect, buffer, output, coded)
@@ -89,7 +83,7 @@ fn put_refusal(refusal: Refusal, output: &mut [u8], at: usize) -> usize
     ensures { λ r. ⌜ Put (now (output .entry)) at (0x48 ∷ numeral (refusalNumber refusal) ∷ []) (now (output .exit)) r ⌝ }
 {
     let text = [b'H', refusal_numeral(refusal)];
-    put(output, at, &text)
+    writing::put(output, at, &text)
 }
 
 // What a call returned, without the line feed.
@@ -97,8 +91,8 @@ fn put_reply(dialect: Dialect, reply: Reply, buffer: &[u8], output: &mut [u8], a
     ensures { λ r. ⌜ Put (now (output .entry)) at (replyText dialect (returned reply) (now (buffer .entry))) (now (output .exit)) r ⌝ }
 {
     match reply {
-        Reply::WasReset => put(output, at, b"P"),
-        Reply::Response(n) => put_response(n, buffer, output, at),
+        Reply::WasReset => writing::put(output, at, b"P"),
+        Reply::Response(n) => put_lettered(b'R', n, buffer, output, at),
         Reply::HandedOut(kind, key) => put_job(dialect, kind, key, buffer, output, at),
         Reply::Refused(refusal) => put_refusal(refusal, output, at),
     }
@@ -115,7 +109,7 @@ pub fn put_line(
     ensures { λ r. ⌜ Put (now (output .entry)) at (replyText dialect (returned reply) (now (buffer .entry)) ++ lineFeed ∷ []) (now (output .exit)) r ⌝ }
 {
     let end = put_reply(dialect, reply, buffer, output, at);
-    put(output, end, b"\n")
+    writing::put(output, end, b"\n")
 }
 
 // F and the number of a fault, with the line feed.
@@ -124,7 +118,7 @@ fn put_fault(fault: Fault, output: &mut [u8], at: usize) -> usize
 {
     let n = faults::number(fault);
     let text = [b'F', b'0' + n / 10, b'0' + n % 10, b'\n'];
-    put(output, at, &text)
+    writing::put(output, at, &text)
 }
 
 // What load answers, with the line feed.
@@ -132,7 +126,25 @@ pub fn put_load(result: LoadResult, output: &mut [u8], at: usize) -> usize
     ensures { λ r. ⌜ Put (now (output .entry)) at (loadText (loadNumber result) ++ lineFeed ∷ []) (now (output .exit)) r ⌝ }
 {
     match result {
-        LoadResult::Accepted => put(output, at, b"L\n"),
+        LoadResult::Accepted => writing::put(output, at, b"L\n"),
         LoadResult::Faulty(fault) => put_fault(fault, output, at),
     }
+}
+
+// What the writer answered, without the line feed.
+fn put_image(result: WriteResult, buffer: &[u8], output: &mut [u8], at: usize) -> usize
+    ensures { λ r. ⌜ Put (now (output .entry)) at (savedText (wroteOf result) (now (buffer .entry))) (now (output .exit)) r ⌝ }
+{
+    match result {
+        WriteResult::Written(n) => put_lettered(b'I', n, buffer, output, at),
+        WriteResult::NotWritten(refusal) => put_refusal(refusal, output, at),
+    }
+}
+
+// What the writer answered, with the line feed.
+pub fn put_saved(result: WriteResult, buffer: &[u8], output: &mut [u8], at: usize) -> usize
+    ensures { λ r. ⌜ Put (now (output .entry)) at (savedText (wroteOf result) (now (buffer .entry)) ++ lineFeed ∷ []) (now (output .exit)) r ⌝ }
+{
+    let end = put_image(result, buffer, output, at);
+    writing::put(output, end, b"\n")
 }

@@ -7,15 +7,17 @@ use native.Mathlib.Omega.{arith}
 use lib.ListN.{length, take, length-take}
 use lib.Seq.{take-all}
 use Rattle.octets.specs.Octets.{Bytes, blank, pasted}
+use Rattle.rules.specs.declared.Card.{Card}
+use Rattle.rules.specs.Numbers.{Wrote}
 use Rattle.rules.specs.Edge.{Result}
 use Rattle.lines.specs.declared.Answered.{Answered}
 use Rattle.lines.specs.declared.Carried.{Carried}
 use Rattle.requests.specs.declared.Dialect.{Dialect}
 use Rattle.lines.specs.declared.Terminal.{Terminal}
 use Rattle.requests.specs.Requests.{Request, requestOf}
-use Rattle.lines.specs.Lines.{LineAnswer, callAnswer, answerTo, setupAfter, answerLine}
+use Rattle.lines.specs.Lines.{LineAnswer, callAnswer, savedAnswer, answerTo, setupAfter, answerLine}
 use Rattle.lines.specs.Terminals.{setupOf, Carries, Lends, Answers}
-use Rattle.line_texts.specs.Puts.{Put}
+use Rattle.writing.specs.Puts.{Put}
 use Rattle.octets.proofs.Pasting.{take-pasted, pasted-own}
 
 pub take-blank : (n m : ℕ) → n ≤ m → take n (blank m) ≡ blank n
@@ -33,6 +35,10 @@ call-buffer size n e f =
 pub call-carried : (d : Dialect) {x y : Result} → x ≡ y → {r : Carried} {before after : Bytes} {at : ℕ} → r .card ≡ x .card
     → Put before at (callAnswer d x .text) after (r .end) → Carries (callAnswer d y) before at after r
 call-carried d e c p = rw (← e) (record { card = c; line = p })
+
+pub saved-carried : (c : Card) {x y : Wrote × Bytes} → x ≡ y → {end : ℕ} {before after : Bytes} {at : ℕ}
+    → Put before at (savedAnswer c x .text) after end → Carries (savedAnswer c y) before at after (record { card = c; end = end })
+saved-carried c e p = rw (← e) (record { card = refl; line = p })
 
 -- What is lent after a line: the lengths of the certificates are read off their rooms, and a new one fits its room.
 module _ (t : Terminal) (a₀ s₀ : Bytes) {na ns : ℕ} (ea : na ≡ length (take (t .authentication) a₀)) (es : ns ≡ length (take (t .signature) s₀)) (la : length a₀ ≡ 2048) (ls : length s₀ ≡ 2048) where

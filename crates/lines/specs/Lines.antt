@@ -3,8 +3,10 @@ use Prim.Native.Nat.{ℕ, min}
 use mathlib.Core.List.{[], _∷_, _++_}
 use Rattle.octets.specs.Octets.{Bytes, blank}
 use Rattle.rules.specs.declared.Card.{Card}
+use Rattle.rules.specs.Numbers.{Wrote}
 use Rattle.rules.specs.Edge.{Result, command, delivery, powerReset}
 use Rattle.rules.specs.Image.{load}
+use Rattle.rules.specs.Writer.{write}
 use Rattle.requests.specs.declared.Dialect.{Dialect}
 use Rattle.requests.specs.Requests.{
   Request,
@@ -12,6 +14,7 @@ use Rattle.requests.specs.Requests.{
   command-of,
   delivery-of,
   image-of,
+  saving,
   authentication-of,
   signature-of,
   buffer-of,
@@ -20,7 +23,7 @@ use Rattle.requests.specs.Requests.{
   mostBuffer,
   requestOf,
 }
-use Rattle.line_texts.specs.Texts.{replyText, loadText}
+use Rattle.line_texts.specs.Texts.{replyText, loadText, savedText}
 
 -- What a program holds between two lines: the card, the certificates that it lends, and the size of the answer buffer.
 pub record Setup : Type 0 where
@@ -44,12 +47,17 @@ cardAnswer c text = record { card = c; text = text ++ lineFeed ∷ [] }
 abbrev pub callAnswer : Dialect → Result → CardAnswer
 callAnswer d r = cardAnswer (r .card) (replyText d (r .returned) (r .buffer))
 
+-- The writer leaves the card as it is.
+abbrev pub savedAnswer : Card → Wrote × Bytes → CardAnswer
+savedAnswer c r = cardAnswer c (savedText (r .0) (r .1))
+
 -- One line of output for each line of input; ? for other lines. After L the card is what load returns, where it refuses too.
 unfoldable pub answerTo : Dialect → Setup → Request → CardAnswer
 answerTo d s reset = callAnswer d (record { returned = powerReset (s .card) .0; card = powerReset (s .card) .1; buffer = [] })
 answerTo d s (command-of apdu) = callAnswer d (command (s .card) apdu (s .authentication) (s .signature) (answerBuffer s))
 answerTo d s (delivery-of result) = callAnswer d (delivery (s .card) result (answerBuffer s))
 answerTo d s (image-of image) = cardAnswer (load image .1) (loadText (load image .0))
+answerTo d s saving = savedAnswer (s .card) (write (s .card) (answerBuffer s))
 answerTo d s (authentication-of certificate) = cardAnswer (s .card) (0x41 ∷ [])
 answerTo d s (signature-of certificate) = cardAnswer (s .card) (0x53 ∷ [])
 answerTo d s (buffer-of n) = cardAnswer (s .card) (0x42 ∷ [])
@@ -61,6 +69,7 @@ setupAfter reset s = s
 setupAfter (command-of apdu) s = s
 setupAfter (delivery-of result) s = s
 setupAfter (image-of image) s = s
+setupAfter saving s = s
 setupAfter (authentication-of certificate) s =
     record { card = s .card; authentication = certificate; signature = s .signature; buffer = s .buffer }
 setupAfter (signature-of certificate) s =

@@ -3,7 +3,7 @@ use Prim.Native.Nat.{ℕ, _≤_}
 use mathlib.Core.Path.{_≡_}
 use lib.ListN.{length, take}
 use Rattle.octets.specs.Octets.{Bytes, pasted}
-use Rattle.line_texts.specs.Puts.{Put}
+use Rattle.writing.specs.Puts.{Put}
 use Rattle.lines.specs.Lines.{Setup, CardAnswer, LineAnswer}
 use Rattle.lines.specs.declared.Terminal.{Terminal}
 use Rattle.lines.specs.declared.Answered.{Answered}

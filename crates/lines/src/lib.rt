@@ -10,11 +10,12 @@ ghost use lib.ListN.{length, take};
 ghost use Rattle.octets.specs.Octets.{blank, pasted};
 ghost use Rattle.rules.specs.Edge.{command, delivery, powerReset};
 ghost use Rattle.rules.specs.Image.{load};
+ghost use Rattle.rules.specs.Writer.{write};
 ghost use Rattle.requests.specs.Requests.{mostBuffer};
 ghost use Rattle.requests.specs.Meanings.{meant};
 ghost use Rattle.line_texts.specs.Texts.{loadText};
-ghost use Rattle.line_texts.specs.Puts.{Put};
-ghost use Rattle.lines.specs.Lines.{cardAnswer, callAnswer, answerTo, setupAfter, answerLine};
+ghost use Rattle.writing.specs.Puts.{Put};
+ghost use Rattle.lines.specs.Lines.{cardAnswer, callAnswer, savedAnswer, answerTo, setupAfter, answerLine};
 ghost use Rattle.lines.specs.Terminals.{setupOf, Carries, Lends, Answers};
 
 // What a program holds between two lines: the card, how many bytes each of the lent certificates has, and the size of the answer
@@ -44,7 +45,7 @@ pub struct Carried {
     pub end: usize,
 }
 
-// A command, a delivery, a reset and an image, each answered.
+// A command, a delivery, a reset, an image to load and one to write, each answered.
 fn answer_command<'a>(
     dialect: Dialect,
     card: Card,
@@ -119,11 +120,25 @@ fn answer_image(image: &[u8], output: &mut [u8], at: usize) -> Carried
     }
 }
 
+fn answer_saving(card: Card, size: usize, output: &mut [u8], at: usize) -> Carried
+    ensures { λ r. ⌜ Carries (savedAnswer card (write card (blank (min size mostBuffer)))) (now (output .entry)) at (now (output .exit)) r ⌝ }
+{
+    let mut space = blank_4096();
+    let n = numbers::sum_within(0, size, 4096);
+    let buffer = &mut space[..n];
+    let result = image_writer::write(card, buffer);
+    let end = line_texts::put_saved(result, buffer, output, at);
+    Carried {
+        card: card,
+        end: end,
+    }
+}
+
 // A line that leaves the card as it is: its letter, or ?, as the whole answer.
 fn unchanged(card: Card, text: &[u8], output: &mut [u8], at: usize) -> Carried
     ensures { λ r. ⌜ (r .card ≡ card) × Put (now (output .entry)) at (now (text .entry)) (now (output .exit)) (r .end) ⌝ }
 {
-    let end = line_texts::put(output, at, text);
+    let end = writing::put(output, at, text);
     Carried {
         card: card,
         end: end,
@@ -163,6 +178,7 @@ fn carry<'a>(
             answer_delivery(dialect, card, size, octets::part(room, 0, n), output, at)
         }
         Meaning::Image(n) => answer_image(octets::part(room, 0, n), output, at),
+        Meaning::Saving => answer_saving(card, size, output, at),
         Meaning::Authentication(_) => unchanged(card, b"A\n", output, at),
         Meaning::Signature(_) => unchanged(card, b"S\n", output, at),
         Meaning::Buffer(_) => unchanged(card, b"B\n", output, at),
@@ -209,6 +225,7 @@ fn settled(
         Meaning::Command(_) => next,
         Meaning::Delivery(_) => next,
         Meaning::Image(_) => next,
+        Meaning::Saving => next,
         Meaning::Other => next,
     }
 }

@@ -9,45 +9,45 @@ use rules::Record;
 
 // A name, and bytes in hex.
 fn put_bytes(text: &mut [u8], at: usize, name: &[u8], s: &[u8]) -> usize {
-    let named = line_texts::put(text, at, name);
+    let named = writing::put(text, at, name);
     let end = hex::hex_at(text, named, s);
-    line_texts::put(text, end, b"\n")
+    writing::put(text, end, b"\n")
 }
 
 fn put_number(text: &mut [u8], at: usize, n: u8) -> usize {
     let mut digits = [0u8; 20];
     let count = io::decimal(numbers::wide(n) as u64, &mut digits);
-    let end = line_texts::put(text, at, &digits[..count]);
-    line_texts::put(text, end, b"\n")
+    let end = writing::put(text, at, &digits[..count]);
+    writing::put(text, end, b"\n")
 }
 
 // A name, the digits and the tries left.
 fn put_code(text: &mut [u8], at: usize, name: &[u8], code: Code) -> usize {
     let digits = code.digits;
-    let named = line_texts::put(text, at, name);
-    let counted = line_texts::put(
+    let named = writing::put(text, at, name);
+    let counted = writing::put(
         text,
         named,
         octets::part(&digits, 0, numbers::wide(code.len)),
     );
-    let end = line_texts::put(text, counted, b" ");
+    let end = writing::put(text, counted, b" ");
     put_number(text, end, code.tries)
 }
 
 fn put_key(text: &mut [u8], at: usize, there: bool, name: &[u8]) -> usize {
     if there {
-        return line_texts::put(text, at, name);
+        return writing::put(text, at, name);
     }
     at
 }
 
 fn put_keys(text: &mut [u8], at: usize, keys: [bool; 4]) -> usize {
-    let named = line_texts::put(text, at, b"keys");
+    let named = writing::put(text, at, b"keys");
     let first = put_key(text, named, keys[0], b" 0100");
     let second = put_key(text, first, keys[1], b" 0200");
     let third = put_key(text, second, keys[2], b" 1100");
     let fourth = put_key(text, third, keys[3], b" 1200");
-    line_texts::put(text, fourth, b"\n")
+    writing::put(text, fourth, b"\n")
 }
 
 fn put_references(text: &mut [u8], at: usize, references: [u8; 21]) -> usize {
@@ -97,44 +97,6 @@ fn put_fault(text: &mut [u8], fault: Fault) -> usize {
     put_number(text, 0, faults::number(fault))
 }
 
-// How much of the image has been read, whether to read on, and whether that is all of it, or enough to refuse it.
-pub struct ImageRead {
-    pub len: usize,
-    pub more: bool,
-    pub ended: bool,
-}
-
-// Reads once more. An image of more than 1,115 bytes is refused by what stands in its first 1,116, so 4,096 bytes of it are enough.
-fn read_more(image: &mut [u8], have: usize) -> ImageRead {
-    let mut room = [0u8; 4096];
-    let reading = streams::read(&mut room);
-    let len = line_texts::put(image, have, octets::part(&room, 0, reading.count));
-    ImageRead {
-        len: len,
-        more: reading.more & (len < image.len()),
-        ended: reading.ended | (len == image.len()),
-    }
-}
-
-// A proved loop has to end, and nothing says that the input does. So the loop counts its turns down, from a number that no run uses up.
-fn read_image(image: &mut [u8]) -> ImageRead {
-    let mut have = 0;
-    let mut left = u64::MAX;
-    while 0 < left {
-        let read = read_more(image, have);
-        if !read.more {
-            return read;
-        }
-        have = read.len;
-        left -= 1;
-    }
-    ImageRead {
-        len: have,
-        more: false,
-        ended: false,
-    }
-}
-
 fn put_loaded(text: &mut [u8], image: &[u8]) -> usize {
     let loaded = image::load(image);
     let result = loaded.result;
@@ -151,9 +113,11 @@ fn main() {
     ) {
         return;
     }
-    let mut image = [0u8; 4096];
-    let read = read_image(&mut image);
-    if read.ended {
+    // What stands past 1,116 bytes changes nothing (`FirstBytes`, field `enough`).
+    let mut image = [0u8; 1116];
+    let read = image_input::read_image(&mut image);
+    let last = read.last;
+    if last.ended | (read.len == 1116) {
         // The longest text has 2,314 characters.
         let mut text = [0u8; 4096];
         let end = put_loaded(&mut text, octets::part(&image, 0, read.len));

@@ -28,6 +28,10 @@ pub all-append : (t : ℕ → Bool) (a b : Bytes) → all t a ≡ true → all t
 all-append t [] b p q = q
 all-append t (x ∷ a) b p q = rw (and-left (t x) (all t a) p) (all-append t a b (and-right (t x) (all t a) p) q)
 
+pub all-right : (t : ℕ → Bool) (a b : Bytes) → all t (a ++ b) ≡ true → all t b ≡ true
+all-right t [] b e = e
+all-right t (x ∷ a) b e = all-right t a b (and-right (t x) (all t (a ++ b)) e)
+
 pub zeros-replicate : (n : ℕ) → allZero (replicate n 0) ≡ true
 zeros-replicate zero = refl
 zeros-replicate (suc n) = zeros-replicate n

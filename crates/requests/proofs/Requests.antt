@@ -10,7 +10,7 @@ use lib.ListN.{length, take, drop, length-drop, drop-of-length-le}
 use lib.Seq.{drop-cons}
 use borrow.Author.Tests.{ltb-false, lt-ltb, le-ltb, le-leb, lt-leb}
 use Rattle.octets.specs.Octets.{Bytes, byteAt, same, every, allDigits, allBytes, pasted}
-use Rattle.octets.proofs.Tests.{split}
+use Rattle.octets.proofs.Tests.{split, and-left}
 use Rattle.hex.specs.Hex.{isHex, bytesOf}
 use Rattle.hex.proofs.Laws.{bytesOf-bytes, length-bytesOf}
 use Rattle.requests.specs.declared.Dialect.{Dialect}
@@ -21,6 +21,7 @@ use Rattle.requests.specs.Requests.{
   command-of,
   delivery-of,
   image-of,
+  saving,
   authentication-of,
   signature-of,
   buffer-of,
@@ -108,24 +109,30 @@ module _ (d : Dialect) (line room : Bytes) {most : ℕ} (m : most ≡ longest d)
     unfolding requestOf roomAfter
     is-reset t = (rw (← m, le-ltb most (length line) h, ← q, t), rw (← m, le-ltb most (length line) h, ← q, t))
 
-    module _ (f : p ≡ false) {letter : ℕ} (l : letter ≡ byteAt line 0) {b : Bool} (i : b ≡ standsIn d) {rest : Bytes} (r : rest ≡ drop 1 line) where
-      pub is-size : (b && eqb letter 0x42) ≡ true → {asked : Request} → asked ≡ sizeRequest rest
-          → (asked ≡ requestOf d line) × (room ≡ roomAfter d line room)
+    module _ (f : p ≡ false) {b : Bool} (i : b ≡ standsIn d) {s : Bool} (j : s ≡ same line (0x49 ∷ [])) where
+      pub is-saving : (b && s) ≡ true → (saving ≡ requestOf d line) × (room ≡ roomAfter d line room)
       unfolding requestOf roomAfter
-      is-size t e =
-          (rw (← m, le-ltb most (length line) h, ← q, f, ← i, ← l, t, ← r) e, rw (← m, le-ltb most (length line) h, ← q, f, ← i, ← l, t))
+      is-saving t =
+          (rw (← m, le-ltb most (length line) h, ← q, f, ← i, ← j, t), rw (← m, le-ltb most (length line) h, ← q, f, ← i, ← j, t))
 
-      module _ (n : (b && eqb letter 0x42) ≡ false) {hex : Bool} (x : hex ≡ isHex rest) where
-        pub no-hex : not hex ≡ true → (other ≡ requestOf d line) × (room ≡ roomAfter d line room)
+      module _ (g : (b && s) ≡ false) {letter : ℕ} (l : letter ≡ byteAt line 0) {rest : Bytes} (r : rest ≡ drop 1 line) where
+        pub is-size : (b && eqb letter 0x42) ≡ true → {asked : Request} → asked ≡ sizeRequest rest
+            → (asked ≡ requestOf d line) × (room ≡ roomAfter d line room)
         unfolding requestOf roomAfter
-        no-hex t =
-            (rw (← m, le-ltb most (length line) h, ← q, f, ← i, ← l, n, ← r, ← x, t), rw (← m, le-ltb most (length line) h, ← q, f, ← i, ← l, n, ← r, ← x, t))
+        is-size t e =
+            (rw (← m, le-ltb most (length line) h, ← q, f, ← i, ← j, g, ← l, t, ← r) e, rw (← m, le-ltb most (length line) h, ← q, f, ← i, ← j, g, ← l, t))
 
-        pub is-hex : not hex ≡ false → {asked : Request} → asked ≡ hexRequest d letter (bytesOf rest) → {after : Bytes} → after ≡ pasted room 0 (bytesOf rest)
-            → (asked ≡ requestOf d line) × (after ≡ roomAfter d line room)
-        unfolding requestOf roomAfter
-        is-hex t e w =
-            (rw (← m, le-ltb most (length line) h, ← q, f, ← i, ← l, n, ← r, ← x, t) e, rw (← m, le-ltb most (length line) h, ← q, f, ← i, ← l, n, ← r, ← x, t) w)
+        module _ (n : (b && eqb letter 0x42) ≡ false) {hex : Bool} (x : hex ≡ isHex rest) where
+          pub no-hex : not hex ≡ true → (other ≡ requestOf d line) × (room ≡ roomAfter d line room)
+          unfolding requestOf roomAfter
+          no-hex t =
+              (rw (← m, le-ltb most (length line) h, ← q, f, ← i, ← j, g, ← l, n, ← r, ← x, t), rw (← m, le-ltb most (length line) h, ← q, f, ← i, ← j, g, ← l, n, ← r, ← x, t))
+
+          pub is-hex : not hex ≡ false → {asked : Request} → asked ≡ hexRequest d letter (bytesOf rest) → {after : Bytes} → after ≡ pasted room 0 (bytesOf rest)
+              → (asked ≡ requestOf d line) × (after ≡ roomAfter d line room)
+          unfolding requestOf roomAfter
+          is-hex t e w =
+              (rw (← m, le-ltb most (length line) h, ← q, f, ← i, ← j, g, ← l, n, ← r, ← x, t) e, rw (← m, le-ltb most (length line) h, ← q, f, ← i, ← j, g, ← l, n, ← r, ← x, t) w)
 
 -- The bytes that a line's hex says, read from the room that they were written to.
 at-most : (d : Dialect) → longest d ≤ 4096
@@ -142,9 +149,10 @@ bytes-read d line m h {rest} r room size {n} {after} w =
     let count : n ≡ length b = omega (arith, w .0) in
     rw (w .1, count) (take-pasted room b short)
 
--- What holds of every request that a line can make holds of the one that it makes. Its bytes are bytes, and fewer than 2,048.
-pub record Cases (P : Request → Type 0) : Type 0 where
+-- What holds of every request that a line can make holds of the one that it makes. Its bytes are bytes, at most 2,048.
+pub record Cases (d : Dialect) (P : Request → Type 0) : Type 0 where
   pub resets : P reset
+  pub savings : standsIn d ≡ true → P saving
   pub sizes : (n : ℕ) → P (buffer-of n)
   pub others : P other
   pub commands : (b : Bytes) → allBytes b ≡ true → length b ≤ 2048 → P (command-of b)
@@ -153,7 +161,7 @@ pub record Cases (P : Request → Type 0) : Type 0 where
   pub authentications : (b : Bytes) → allBytes b ≡ true → length b ≤ 2048 → P (authentication-of b)
   pub signatures : (b : Bytes) → allBytes b ≡ true → length b ≤ 2048 → P (signature-of b)
 
-module _ (P : Request → Type 0) (c : Cases P) (d : Dialect) where
+module _ (P : Request → Type 0) (d : Dialect) (c : Cases d P) where
   by-letter : (letter : ℕ) (b : Bytes) → allBytes b ≡ true → length b ≤ 2048 → P (hexRequest d letter b)
   unfolding hexRequest furtherRequest
   by-letter letter b e h =
@@ -170,7 +178,8 @@ module _ (P : Request → Type 0) (c : Cases P) (d : Dialect) where
   every-request line =
       split P (ltb (longest d) (length line)) (λ _. c .others)
       (λ l. split P (same line (0x50 ∷ [])) (λ _. c .resets)
+      (λ _. split P (standsIn d && same line (0x49 ∷ [])) (λ e. c .savings (and-left (standsIn d) (same line (0x49 ∷ [])) e))
       (λ _. split P (standsIn d && eqb (byteAt line 0) 0x42) (λ _. split P (isSize (drop 1 line)) (λ _. c .sizes (decimal (drop 1 line))) (λ _. c .others))
       (λ _. split P (not (isHex (drop 1 line))) (λ _. c .others)
       (λ _. by-letter (byteAt line 0) (bytesOf (drop 1 line)) (bytesOf-bytes (drop 1 line))
-      (omega (arith, length-bytesOf (drop 1 line), length-drop 1 line, ltb-false (longest d) (length line) l, at-most d))))))
+      (omega (arith, length-bytesOf (drop 1 line), length-drop 1 line, ltb-false (longest d) (length line) l, at-most d)))))))

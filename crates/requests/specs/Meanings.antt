@@ -11,6 +11,7 @@ use Rattle.requests.specs.Requests.{
   command-of,
   delivery-of,
   image-of,
+  saving,
   authentication-of,
   signature-of,
   buffer-of,
@@ -25,6 +26,7 @@ use Rattle.requests.specs.declared.Meaning.the-variants.{
   Command,
   Delivery,
   Image,
+  Saving,
   Authentication,
   Signature,
   Buffer,
@@ -37,6 +39,7 @@ meant Reset room = reset
 meant (Command n) room = command-of (take n room)
 meant (Delivery n) room = delivery-of (take n room)
 meant (Image n) room = image-of (take n room)
+meant Saving room = saving
 meant (Authentication n) room = authentication-of (take n room)
 meant (Signature n) room = signature-of (take n room)
 meant (Buffer n) room = buffer-of n
@@ -47,6 +50,7 @@ unfoldable pub roomAfter : Dialect → Bytes → Bytes → Bytes
 roomAfter d line room =
     cond (ltb (longest d) (length line)) room
     (cond (same line (0x50 ∷ [])) room
+    (cond (standsIn d && same line (0x49 ∷ [])) room
     (cond (standsIn d && eqb (byteAt line 0) 0x42) room
     (cond (not (isHex (drop 1 line))) room
-    (pasted room 0 (bytesOf (drop 1 line))))))
+    (pasted room 0 (bytesOf (drop 1 line)))))))

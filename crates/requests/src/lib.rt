@@ -38,6 +38,7 @@ pub enum Meaning {
     Command(usize),
     Delivery(usize),
     Image(usize),
+    Saving,
     Authentication(usize),
     Signature(usize),
     Buffer(usize),
@@ -129,9 +130,13 @@ pub fn asked(dialect: Dialect, line: &[u8], room: &mut [u8; 2048]) -> Meaning
     if octets::equal(line, b"P") {
         return Meaning::Reset;
     }
+    let further = stands_in(dialect);
+    if further & octets::equal(line, b"I") {
+        return Meaning::Saving;
+    }
     let letter = octets::byte_at(line, 0);
     let rest = octets::part(line, 1, line.len());
-    if stands_in(dialect) & (letter == b'B') {
+    if further & (letter == b'B') {
         return size_asked(rest);
     }
     if !hex::is_hex(rest) {

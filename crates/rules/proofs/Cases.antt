@@ -1,4 +1,4 @@
--- P1 to P10 hold: the rules compute what the cases expect. And the sample image loads as the sample card.
+-- P1 to P10 hold: the rules compute what the cases expect. So do those of the writer. And the sample image loads as the sample card.
 use mathlib.Core.Path.{refl}
 use Rattle.octets.specs.Octets.{blank, filled, goodRoom}
 use Rattle.pkcs1.specs.Pkcs1.{padded, cannotPad, pad, beforeZero, enciphered, strip}
@@ -23,13 +23,19 @@ use Rattle.rules.specs.Edge.{responseIn, written, command, delivery, pow
 use Rattle.rules.specs.Image.{byteIf, bytesIf, readCode, codeSection, readKey, readKeys, keySection}
 use Rattle.rules.specs.Image.{referenceSection, readPersonal, readRecords, personalSection, end, readCard, loaded}
 use Rattle.rules.specs.Image.{load}
+use Rattle.rules.specs.Writer.{codeImage, codesImage, keysAmong, keyBytes, keysImage, referencesImage, recordImage, recordsImage}
+use Rattle.rules.specs.Writer.{personalImage, imageOf, write}
 use Rattle.rules.specs.Counting.{step, returnedStatus}
 use Rattle.rules.specs.Sample.{sampleCard, sampleImage, SampleLoads}
-use Rattle.rules.specs.Cases.{onCard, padding, cases, PCases}
+use Rattle.rules.specs.Cases.{onCard, padding, cases, PCases, writings, WritingsShown}
 
 pub p-cases : PCases
 unfolding cases onCard padding sampleCard step command delivery powerReset written responseIn returnedStatus good goodCodes goodProfile goodSession goodCode goodRoom goodReferences goodRecords goodSelection goodEnvironment goodJob filesIn present ofClass activeKey keyFor newSession blank filled least allowed parse judge judgeForm judgeHeader knownInstruction instruction namedIn parameters judgeNamed lengths ownRules verify change resetRetry unblockByVerifiedPuk unblockByPresentedPuk verdict judged queried replaced select readRecord readStatus readBinary getResponse give moreBytes recordCount recordOf counterRecord pinRecord pukRecord certificateOf setEnvironment kindChosen chooseKey internalAuthenticate sign decipher isDigest prefixed sha2 padded cannotPad pad deliver strip enciphered beforeZero personalRecord
 p-cases = refl
+
+pub writings-shown : WritingsShown
+unfolding writings sampleCard sampleImage step command written responseIn good goodCodes goodProfile goodSession goodCode goodRoom goodReferences goodRecords goodSelection goodEnvironment goodJob filesIn present ofClass activeKey newSession blank filled least parse judge judgeForm judgeHeader knownInstruction instruction namedIn parameters judgeNamed lengths ownRules verify verdict judged select readRecord give moreBytes recordCount recordOf counterRecord pinRecord pukRecord personalRecord write imageOf codesImage codeImage keysImage keysAmong keyBytes referencesImage personalImage recordsImage recordImage
+writings-shown = record { returned = refl; buffers = refl }
 
 pub sample-loads : SampleLoads
 unfolding load loaded readCard codeSection keySection referenceSection personalSection readCode readKey readKeys readRecords readPersonal end byteIf bytesIf sampleImage sampleCard least filled blank newSession present ofClass activeKey

@@ -1,9 +1,10 @@
 -- VERIFY, CHANGE REFERENCE DATA and RESET RETRY COUNTER keep good codes.
-use mathlib.Core.Path.{_≡_, refl}
+use mathlib.Core.Path.{_≡_, refl, _∙_}
 use mathlib.Core.Bool.{Bool, true, false, not, or-true}
 use mathlib.Core.List.{List}
 use Prim.Native.Nat.{ℕ, _-_, _≤_, _<_}
 use native.Mathlib.Omega.{arith}
+use lib.ListN.{length-set}
 use Rattle.octets.specs.Octets.{Bytes}
 use Rattle.octets.proofs.Buffers.{each-place}
 use Rattle.rules.specs.declared.Code.{Code}
@@ -16,7 +17,7 @@ use Rattle.rules.specs.Answers.{codeStatus}
 use Rattle.rules.specs.CodeCommands.{swNotAllowed, swHasTries, verdict, judged, queried, verify, replaced}
 use Rattle.rules.specs.CodeCommands.{change, unblockByPresentedPuk, resetRetry}
 use Rattle.rules.proofs.Walks.{refusing, queried-walk, verify-walk, replaced-walk, verifiedPuk-walk, resetRetry-walk}
-use Rattle.rules.proofs.Parts.{code-tries, marked-good, stored-good, good-code, codes-good, code-place}
+use Rattle.rules.proofs.Parts.{code-tries, marked-good, stored-good, three-codes, good-code, codes-good, code-place}
 use Rattle.rules.proofs.KeepingAnswers.{KeepsCodes, refusing-alone, ok-alone, left-alone}
 
 -- A refusal: the codes as they were.
@@ -31,7 +32,7 @@ module _ (codes : List Code) (g : goodCodes codes ≡ true) where
   -- Good codes with another good code.
   with-code-good : (k : ℕ) → k < 3 → (v : Code) → goodCode k v ≡ true → goodCodes (withCode codes k v) ≡ true
   with-code-good k b v h =
-      codes-good (withCode codes k v)
+      codes-good (withCode codes k v) (length-set codes k v ∙ three-codes codes g)
       (λ i n. each-place (λ i v. goodCode i v ≡ true) codes k v zeroCode (code-place codes g k b) h i (good-code codes g i n))
 
   -- Code k with three tries; with other tries and its mark off; with its mark off.

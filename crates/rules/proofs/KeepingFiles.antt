@@ -4,9 +4,9 @@ use mathlib.Core.Bool.{Bool, true, _||_, or-true}
 use mathlib.Core.List.{List, []}
 use Prim.Native.Nat.{ℕ, zero, suc, _-_, _≤_, _<_}
 use native.Mathlib.Omega.{arith}
-use lib.Dec.{eqb}
+use lib.Dec.{eqb, leb}
 use lib.ListN.{length, take, drop, getD, length-take, length-drop}
-use Rattle.octets.specs.Octets.{Bytes}
+use Rattle.octets.specs.Octets.{Bytes, goodRoom}
 use Rattle.octets.proofs.Tests.{split, either, and-left, and-right}
 use Rattle.rules.specs.declared.Code.{Code}
 use Rattle.rules.specs.declared.Profile.{Profile}
@@ -47,7 +47,8 @@ module _ (codes : List Code) (p : Profile) (g : goodProfile p ≡ true) where
   unfolding personalRecord
   personal-short n h =
       let r : Record = getD (p .personal) (n - 1) noRecord in
-      let room : goodRecord r ≡ true = record-good (p .personal) 16 (good-records p g) (n - 1) (omega arith) in
+      let isGood : goodRecord r ≡ true = record-good (p .personal) 16 (good-records p g) (n - 1) (omega arith) in
+      let room : goodRoom 64 (r .bytes) (r .len) ≡ true = and-right (leb 1 (r .len)) _ isGood in
       omega (arith, room-len 64 (r .bytes) (r .len) room, room-taken 64 (r .bytes) (r .len) room)
 
   counter-short : (n : ℕ) → Short (counterRecord codes n)

@@ -14,10 +14,13 @@ pub mod Demand1
 pub mod Certificates
 pub mod Reading
 pub mod Loading
+pub mod Writing
+pub mod FirstBytes
 pub mod GoodStates
 pub mod Queries
 pub mod Sheet
 pub mod SequenceBound
 pub mod SequenceMet
 pub mod Demand3
+pub mod ImageLaws
 pub mod CardSize

@@ -19,9 +19,11 @@ use Rattle.rules.specs.declared.Fault.the-variants.{EndsEarly, WrongCoun
 use Rattle.rules.specs.declared.Fault.the-variants.{RecordLength, LeftOver}
 use Rattle.rules.specs.declared.LoadResult.{LoadResult}
 use Rattle.rules.specs.declared.LoadResult.the-variants.{Accepted, Faulty}
+use Rattle.rules.specs.declared.WriteResult.{WriteResult}
+use Rattle.rules.specs.declared.WriteResult.the-variants.{NotWritten, Written}
 use Rattle.rules.specs.Numbers.{kindNumber, refusalNumber, Returned, edge, responded, handedOut, wasReset}
 use Rattle.rules.specs.Numbers.{returned, faultNumber, loadNumber, LengthForm, form, refused, lengthForm}
-use Rattle.rules.specs.Numbers.{ToldApart}
+use Rattle.rules.specs.Numbers.{Wrote, unwritten, wrote, wroteOf, ToldApart}
 use Rattle.rules.specs.Numbers.{Naming, names, namesNone, naming}
 
 -- A map with an inverse tells all cases apart.
@@ -93,6 +95,15 @@ fault-back : (a : Fault) → faultIn (loadOf (faultNumber a)) ≡ a
 unfolding faultIn
 fault-back a = ap faultIn (load-back (Faulty a))
 
+writeOf : Wrote → WriteResult
+writeOf (unwritten n) = NotWritten (refusalOf n)
+writeOf (wrote n) = Written n
+
+write-back : (a : WriteResult) → writeOf (wroteOf a) ≡ a
+unfolding writeOf
+write-back (NotWritten r) = ap NotWritten (refusal-back r)
+write-back (Written n) = refl
+
 parsedOf : LengthForm → Parsed
 parsedOf (form h start) = Form h start
 parsedOf (refused sw) = Malformed
@@ -119,6 +130,7 @@ told-apart =
       replies = apart returned replyOf reply-back;
       faults = apart faultNumber (λ n. faultIn (loadOf n)) fault-back;
       loads = apart loadNumber loadOf load-back;
+      writes = apart wroteOf writeOf write-back;
       forms = apart lengthForm parsedOf form-back;
       names = apart naming namedOf named-back;
     }

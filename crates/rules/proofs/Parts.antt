@@ -3,14 +3,14 @@ use mathlib.Core.Path.{_≡_}
 use mathlib.Core.Logic.{_≢_}
 use mathlib.Core.Bool.{Bool, true, false, not, _&&_, _||_}
 use mathlib.Core.List.{List, [], _∷_}
-use Prim.Native.Nat.{ℕ, _-_, _≤_, _<_}
+use Prim.Native.Nat.{ℕ, _≤_, _<_}
 use native.Mathlib.Omega.{arith}
-use lib.Dec.{eqb, leb, ltb}
-use lib.ListN.{length, getD, set, take, drop, length-take, List·getD-eq-default}
+use lib.Dec.{eqb, leb}
+use lib.ListN.{length, getD, set, take, drop, length-take}
 use lib.Seq.{getD-set-same, getD-set-other}
-use borrow.Author.Tests.{eqb-true, leb-true, ltb-true, ltb-false, eq-eqb, le-leb}
+use borrow.Author.Tests.{eqb-true, leb-true, eq-eqb, le-leb}
 use Rattle.octets.specs.Octets.{Bytes, allDigits, allZero, filled, goodRoom}
-use Rattle.octets.proofs.Tests.{split, by-test, and-left, and-right, nth, below-three}
+use Rattle.octets.proofs.Tests.{split, and-left, and-right, nth, below-three}
 use Rattle.octets.proofs.Strings.{length-filled, take-filled, rest-filled}
 use Rattle.rules.specs.declared.Card.{Card}
 use Rattle.rules.specs.declared.Code.{Code}
@@ -99,28 +99,50 @@ stored-good k d a =
 -- Good codes.
 module _ (codes : List Code) (g : goodCodes codes ≡ true) where
   abbrev codes-tests : List Bool
-  codes-tests = goodCode PUK (codeOf codes PUK) ∷ goodCode PIN1 (codeOf codes PIN1) ∷ goodCode PIN2 (codeOf codes PIN2) ∷ []
+  codes-tests =
+      eqb (length codes) 3
+      ∷ goodCode PUK (codeOf codes PUK)
+      ∷ goodCode PIN1 (codeOf codes PIN1)
+      ∷ goodCode PIN2 (codeOf codes PIN2)
+      ∷ []
+
+  pub three-codes : length codes ≡ 3
+  unfolding goodCodes
+  three-codes = eqb-true (length codes) 3 (nth codes-tests 0 g)
 
   pub good-code : (k : ℕ) → k < 3 → goodCode k (codeOf codes k) ≡ true
   unfolding goodCodes
-  good-code = below-three (λ k. goodCode k (codeOf codes k) ≡ true) (nth codes-tests 0 g) (nth codes-tests 1 g) (nth codes-tests 2 g)
+  good-code = below-three (λ k. goodCode k (codeOf codes k) ≡ true) (nth codes-tests 1 g) (nth codes-tests 2 g) (nth codes-tests 3 g)
 
-pub codes-good : (codes : List Code) → ((k : ℕ) → k < 3 → goodCode k (codeOf codes k) ≡ true) → goodCodes codes ≡ true
+pub codes-good : (codes : List Code) → length codes ≡ 3 → ((k : ℕ) → k < 3 → goodCode k (codeOf codes k) ≡ true) → goodCodes codes ≡ true
 unfolding goodCodes
-codes-good codes each = simp (each 0 (omega arith), each 1 (omega arith), each 2 (omega arith))
+codes-good codes n each = simp (eq-eqb (length codes) 3 n, each 0 (omega arith), each 1 (omega arith), each 2 (omega arith))
 
 -- A good profile.
 module _ (p : Profile) (g : goodProfile p ≡ true) where
   abbrev profile-tests : List Bool
-  profile-tests = goodReferences (p .keys) (p .references) ∷ goodRecords 16 (p .personal) ∷ []
+  profile-tests =
+      eqb (length (p .keys)) 4
+      ∷ goodReferences (p .keys) (p .references)
+      ∷ eqb (length (p .personal)) 16
+      ∷ goodRecords 16 (p .personal)
+      ∷ []
+
+  pub four-keys : length (p .keys) ≡ 4
+  unfolding goodProfile
+  four-keys = eqb-true (length (p .keys)) 4 (nth profile-tests 0 g)
 
   pub good-references : goodReferences (p .keys) (p .references) ≡ true
   unfolding goodProfile
-  good-references = nth profile-tests 0 g
+  good-references = nth profile-tests 1 g
+
+  pub sixteen-records : length (p .personal) ≡ 16
+  unfolding goodProfile
+  sixteen-records = eqb-true (length (p .personal)) 16 (nth profile-tests 2 g)
 
   pub good-records : goodRecords 16 (p .personal) ≡ true
   unfolding goodProfile
-  good-records = nth profile-tests 1 g
+  good-records = nth profile-tests 3 g
 
 -- A good card's parts.
 module _ (c : Card) (g : good c ≡ true) where
@@ -145,16 +167,9 @@ pub good-card : (c : Card) → goodCodes (c .codes) ≡ true → goodProfile (c 
 unfolding good
 good-card c codes profile session = simp (codes, profile, session)
 
--- Where a good code stands, there is a place.
-pub code-in : (l : List Code) (k : ℕ) → goodCode k (getD l k zeroCode) ≡ true → k < length l
-code-in l k g = by-test _ (ltb k (length l))
-    (λ e. ltb-true k (length l) e)
-    (λ e. let h : goodCode k zeroCode ≡ true = rw (List·getD-eq-default l zeroCode (ltb-false k (length l) e)) at g in
-    absurd (omega (arith, least-some k, code-least k zeroCode h)))
-
 -- Each of good codes has a place.
 pub code-place : (codes : List Code) → goodCodes codes ≡ true → (k : ℕ) → k < 3 → k < length codes
-code-place codes g k h = code-in codes k (good-code codes g k h)
+code-place codes g k h = omega (arith, three-codes codes g)
 
 -- Codes read back after one was replaced.
 module _ (l : List Code) (j : ℕ) (v : Code) (h : j < length l) where

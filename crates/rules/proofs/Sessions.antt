@@ -75,7 +75,7 @@ module _ (keys : List Bool) (references : Bytes) (g : goodReferences keys refere
   unfolding goodReferences
   references-length = eqb-true (length references) 21 (nth references-tests 0 g)
 
-  active-usable : (kind : JobKind) → usable keys (kindNumber kind) (activeKey references (kindNumber kind)) ≡ true
+  pub active-usable : (kind : JobKind) → usable keys (kindNumber kind) (activeKey references (kindNumber kind)) ≡ true
   unfolding goodReferences activeKey ofClass
   active-usable Authenticate = nth references-tests 1 g
   active-usable Sign = nth references-tests 2 g

@@ -1,18 +1,19 @@
--- Document 01, "Cases": P1 to P10 as one list, P1 to P9 from the sample card, and the theorem's statement.
+-- Document 01, "Cases": P1 to P10 as one list, P1 to P9 from the sample card, entries of document 02 beside them, and the theorem's statement.
 use Prim.Native.Nat.{ℕ, suc, _-_}
 use mathlib.Core.Path.{_≡_}
 use mathlib.Core.Bool.{Bool, true, false, cond}
 use mathlib.Core.List.{List, [], _∷_, _++_, map}
-use lib.ListN.{length, take, drop, replicate}
+use lib.ListN.{length, take, drop, replicate, set}
 use lib.Dec.{eqb}
-use Rattle.octets.specs.Octets.{Bytes}
+use Rattle.octets.specs.Octets.{Bytes, same}
 use Rattle.pkcs1.specs.Pkcs1.{pad}
 use Rattle.rules.specs.declared.Card.{Card}
-use Rattle.rules.specs.Numbers.{Returned, edge, responded, handedOut, wasReset}
+use Rattle.rules.specs.Numbers.{Returned, edge, responded, handedOut, wasReset, Wrote, unwritten, wrote}
 use Rattle.rules.specs.Codes.{PUK, PIN1, PIN2, codeOf}
 use Rattle.rules.specs.Digests.{sha1Prefix}
 use Rattle.rules.specs.Counting.{Call, Command, Delivery, PowerReset, trace, after, returnedStatus}
-use Rattle.rules.specs.Sample.{sampleCard, pin1, pin2}
+use Rattle.rules.specs.Writer.{write}
+use Rattle.rules.specs.Sample.{sampleCard, sampleImage, pin1, pin2}
 
 -- What is seen of a call: response data and status word; a job's kind, key and block; an edge refusal's number; or a reset.
 -- Of a code afterwards: its number, tries and mark. Of padding: its answer, and how many bytes FF stand after 00 01.
@@ -52,6 +53,19 @@ unfoldable pub padding : ℕ → List Seen
 padding n =
     let done = pad (replicate n 0x55) (replicate 256 0x00) in
     pads (done .0) (countFF (drop 2 (done .1))) ∷ []
+
+-- The sample card with no byte in its last record.
+abbrev pub emptyRecord : Card
+emptyRecord =
+    record {
+      codes = sampleCard .codes;
+      profile = record {
+        keys = sampleCard .profile .keys;
+        references = sampleCard .profile .references;
+        personal = set (sampleCard .profile .personal) 15 (record { bytes = replicate 64 0x00; len = 0 });
+      };
+      session = sampleCard .session;
+    }
 
 -- A case: what is seen, and what is to be seen.
 pub record Case : Type 0 where
@@ -276,3 +290,37 @@ cases =
 -- P1 to P10 and the entries beside them, together.
 abbrev pub PCases : Type 0
 PCases = map (λ x. x .seen) cases ≡ map (λ x. x .expected) cases
+
+-- The writer (02, wish 3) on a card and a buffer of n bytes EE: what it is to return, and the buffer as it is to leave it.
+pub record Writing : Type 0 where
+  pub card : Card
+  pub size : ℕ
+  pub returned : Wrote
+  pub buffer : Bytes
+
+abbrev pub on : Card → ℕ → Wrote → Bytes → Writing
+on c n returned buffer = record { card = c; size = n; returned = returned; buffer = buffer }
+
+abbrev pub done : Writing → Wrote × Bytes
+done x = write (x .card) (replicate (x .size) 0xEE)
+
+unfoldable pub writings : List Writing
+writings =
+    -- the sample card; with a try of PIN1 spent, PIN2 open and an answer held
+    on sampleCard 1115 (wrote 84) (sampleImage ++ replicate 1031 0xEE)
+    ∷ on (after sampleCard (
+    wrongPin1
+    ∷ verifyOf PIN2 pin2
+    ∷ withBody 0x00 0xA4 0x02 0x0C (0x00 ∷ 0x16 ∷ [])
+    ∷ send (0x00 ∷ 0xB2 ∷ 0x03 ∷ 0x04 ∷ [])
+    ∷ []
+    )) 1116 (wrote 84) (take 16 sampleImage ++ 2 ∷ (drop 17 sampleImage ++ replicate 1032 0xEE))
+    -- a bad state before a short buffer
+    ∷ on emptyRecord 0 (unwritten 1) []
+    ∷ on emptyRecord 1115 (unwritten 1) (replicate 1115 0xEE)
+    ∷ on sampleCard 1114 (unwritten 2) (replicate 1114 0xEE)
+    ∷ []
+
+pub record WritingsShown : Type 0 where
+  pub returned : map (λ x. done x .0) writings ≡ map (λ x. x .returned) writings
+  pub buffers : map (λ x. same (done x .1) (x .buffer)) writings ≡ replicate (length writings) true

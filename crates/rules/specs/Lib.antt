@@ -14,8 +14,10 @@ pub mod Judgement
 pub mod Delivery
 pub mod Edge
 pub mod Image
+pub mod Writer
 pub mod Counting
 pub mod Demands
+pub mod ImageLaws
 pub mod CodeSheet
 pub mod Reading
 pub mod Sample

@@ -21,6 +21,8 @@ use Rattle.rules.specs.declared.Fault.the-variants.{EndsEarly, WrongCoun
 use Rattle.rules.specs.declared.Fault.the-variants.{RecordLength, LeftOver}
 use Rattle.rules.specs.declared.LoadResult.{LoadResult}
 use Rattle.rules.specs.declared.LoadResult.the-variants.{Accepted, Faulty}
+use Rattle.rules.specs.declared.WriteResult.{WriteResult}
+use Rattle.rules.specs.declared.WriteResult.the-variants.{NotWritten, Written}
 
 -- The kinds of a job: 1 authenticate, 2 sign, 3 decipher.
 abbrev pub kindNumber : JobKind → ℕ
@@ -64,6 +66,15 @@ abbrev pub loadNumber : LoadResult → ℕ
 loadNumber Accepted = 0
 loadNumber (Faulty f) = faultNumber f
 
+-- What the writer returns: an edge refusal's number, or the image's length.
+pub data Wrote : Type 0 where
+  unwritten : ℕ → Wrote
+  wrote : ℕ → Wrote
+
+abbrev pub wroteOf : WriteResult → Wrote
+wroteOf (NotWritten r) = unwritten (refusalNumber r)
+wroteOf (Written n) = wrote n
+
 -- What the length form of a command gives: its header and where its data would start, or the status word that refuses it.
 pub data LengthForm : Type 0 where
   form : Header → ℕ → LengthForm
@@ -89,5 +100,6 @@ pub record ToldApart : Type 0 where
   pub replies : (a b : Reply) → returned a ≡ returned b → a ≡ b
   pub faults : (a b : Fault) → faultNumber a ≡ faultNumber b → a ≡ b
   pub loads : (a b : LoadResult) → loadNumber a ≡ loadNumber b → a ≡ b
+  pub writes : (a b : WriteResult) → wroteOf a ≡ wroteOf b → a ≡ b
   pub forms : (a b : Parsed) → lengthForm a ≡ lengthForm b → a ≡ b
   pub names : (a b : Named) → naming a ≡ naming b → a ≡ b

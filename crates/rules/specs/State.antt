@@ -1,6 +1,5 @@
--- Document 01, "The edge": what a good state is ("good" is document 01's term). Nothing more is asked.
--- Of each byte array and of the key choices the length is asked too. Of the lists of codes, key marks and records it is not: the rules read
--- their first 3, 4 and 16 elements and no others, and the card's declared types have exactly these.
+-- Document 01, "The edge": what a good state is ("good" is document 01's term). Nothing more is asked. Since document 02's wish 3 it keeps
+-- the image's ranges and key order too. Of each list the length is asked as well; the card's declared types have exactly these.
 use Prim.Native.Nat.{ℕ, zero, suc}
 use mathlib.Core.Bool.{Bool, true, cond, not, _&&_, _||_}
 use mathlib.Core.List.{List, [], _∷_}
@@ -36,9 +35,16 @@ goodCode k v =
     ∷ []
     )
 
+-- The three codes.
 unfoldable pub goodCodes : List Code → Bool
 goodCodes codes =
-    every (goodCode PUK (codeOf codes PUK) ∷ goodCode PIN1 (codeOf codes PIN1) ∷ goodCode PIN2 (codeOf codes PIN2) ∷ [])
+    every (
+    eqb (length codes) 3
+    ∷ goodCode PUK (codeOf codes PUK)
+    ∷ goodCode PIN1 (codeOf codes PIN1)
+    ∷ goodCode PIN2 (codeOf codes PIN2)
+    ∷ []
+    )
 
 -- The record of 0033h has 21 bytes, and the active key of each class is present and of its class.
 unfoldable pub goodReferences : List Bool → Bytes → Bool
@@ -50,17 +56,25 @@ goodReferences keys references =
     ∷ []
     )
 
--- A personal record: 0 to 64 bytes, and zeros in the unused places. That an image gives each record 1 to 64 bytes is a rule of the image.
+-- A personal record: 1 to 64 bytes, and zeros in the unused places.
 abbrev pub goodRecord : Record → Bool
-goodRecord r = goodRoom 64 (r .bytes) (r .len)
+goodRecord r = leb 1 (r .len) && goodRoom 64 (r .bytes) (r .len)
 
 -- The first n personal records are good.
 unfoldable pub goodRecords : ℕ → List Record → Bool
 goodRecords zero rs = true
 goodRecords (suc n) rs = goodRecords n rs && goodRecord (getD rs n noRecord)
 
+-- Four key marks, whose order is the image's; the record of 0033h; sixteen personal records.
 unfoldable pub goodProfile : Profile → Bool
-goodProfile p = every (goodReferences (p .keys) (p .references) ∷ goodRecords 16 (p .personal) ∷ [])
+goodProfile p =
+    every (
+    eqb (length (p .keys)) 4
+    ∷ goodReferences (p .keys) (p .references)
+    ∷ eqb (length (p .personal)) 16
+    ∷ goodRecords 16 (p .personal)
+    ∷ []
+    )
 
 -- The current directory is one of the two; the current file, if any, is in it.
 unfoldable pub goodSelection : Selection → Bool

@@ -210,3 +210,9 @@ pub struct Loaded {
     pub card: Card,
     pub result: LoadResult,
 }
+
+// What the writer answers: an edge refusal, or the length of the image in the buffer. `wroteOf` gives document 02's numbers.
+pub enum WriteResult {
+    NotWritten(Refusal),
+    Written(usize),
+}

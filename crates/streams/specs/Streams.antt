@@ -1,5 +1,6 @@
 -- What follows from what the system answered to a reading.
 use Prim.Native.Nat.{ℕ, zero, suc}
+use mathlib.Core.Path.{_≡_}
 use mathlib.Core.Bool.{Bool, true, false, _&&_}
 use lib.IntN.{ℤ, pos, negsuc}
 use Rattle.streams.specs.declared.Reading.{Reading}
@@ -35,3 +36,7 @@ readingFor got interrupted = record {
   ended = atEnd got;
   more = readsOn got interrupted;
 }
+
+-- A reading as it follows from what the system answered.
+abbrev pub IsReading : Reading → Type 0
+IsReading r = r ≡ readingFor (r .got) (r .interrupted)

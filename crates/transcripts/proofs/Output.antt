@@ -1,11 +1,11 @@
--- A line gives at most 518 characters, of the stand-in at most 521.
+-- A line gives at most 518 characters, of the stand-in at most 2,232: I, the hex of 1,115 bytes, and the line feed.
 use mathlib.Core.Path.{_≡_, refl}
-use mathlib.Core.Bool.{true, _&&_}
+use mathlib.Core.Bool.{true, _&&_, false≢true}
 use mathlib.Core.List.{[], _∷_, _++_}
 use Prim.Native.Nat.{ℕ, zero, suc, _≤_, min}
 use native.Mathlib.Omega.{arith}
 use lib.Dec.{eqb}
-use lib.ListN.{length, take, length-append, length-take}
+use lib.ListN.{length, take, drop, length-append, length-take}
 use Rattle.octets.specs.Octets.{Bytes, allBytes, blank}
 use Rattle.octets.proofs.Tests.{split, by-test, and-left, and-right}
 use Rattle.hex.specs.Hex.{hexOf}
@@ -14,14 +14,17 @@ use Rattle.rules.specs.declared.Card.{Card}
 use Rattle.rules.specs.Numbers.{Returned, edge, responded, handedOut, wasReset}
 use Rattle.rules.specs.Edge.{command, delivery, powerReset}
 use Rattle.rules.specs.Image.{load}
+use Rattle.rules.specs.Writer.{imageOf, write}
 use Rattle.rules.specs.Counting.{Call, Command, Delivery, PowerReset, step}
 use Rattle.rules.specs.Demands.{Possible, edgeRefusal, commandResponse, commandJob, deliveryResponse, reset}
 use Rattle.rules.proofs.Demand1.{demand-1}
+use Rattle.rules.proofs.Writing.{image-most}
+use Rattle.rules.proofs.ImageLaws.{write-ways}
 use Rattle.requests.specs.declared.Dialect.{Dialect}
 use Rattle.requests.specs.declared.Dialect.the-variants.{Transcript, StandIn}
-use Rattle.requests.specs.Requests.{Request, lineFeed, mostBuffer}
+use Rattle.requests.specs.Requests.{Request, lineFeed, mostBuffer, standsIn}
 use Rattle.lines.specs.Lines.{Setup, answerTo, setupAfter, lineAnswer, answerBuffer, answerLine}
-use Rattle.line_texts.specs.Texts.{replyText, loadText}
+use Rattle.line_texts.specs.Texts.{replyText, loadText, savedText}
 use Rattle.requests.proofs.Requests.{Cases, every-request}
 use Rattle.transcripts.specs.Transcript.{Program, run, keptLine, mostText, ShortOutput}
 use Rattle.transcripts.proofs.Runs.{at-end, at-feed, at-other, nextLine, oneMore}
@@ -53,6 +56,18 @@ load-short : (d : Dialect) (n : ℕ) → length (loadText n ++ lineFeed ∷ []) 
 unfolding loadText
 load-short d n = split (λ (t : Bytes). length (t ++ lineFeed ∷ []) ≤ mostText d) (eqb n 0) (λ _. omega (arith, small d)) (λ _. omega (arith, small d))
 
+saved-short : (d : Dialect) → standsIn d ≡ true → (c : Card) (b : Bytes)
+    → length (savedText (write c b .0) (write c b .1) ++ lineFeed ∷ []) ≤ mostText d
+unfolding savedText
+saved-short Transcript e c b = absurd (false≢true e)
+saved-short StandIn e c b =
+    write-ways c b (λ r. length (savedText (r .0) (r .1) ++ lineFeed ∷ []) ≤ mostText StandIn)
+    (λ g. omega arith)
+    (λ g h. omega arith)
+    (λ g h.
+    let shown = take (length (imageOf c)) (imageOf c ++ drop (length (imageOf c)) b) in
+    omega (arith, length-append (hexOf shown) (lineFeed ∷ []), length-hexOf shown, length-take (length (imageOf c)) (imageOf c ++ drop (length (imageOf c)) b), image-most c g))
+
 blank-bytes : (n : ℕ) → allBytes (blank n) ≡ true
 unfolding blank
 blank-bytes zero = refl
@@ -72,10 +87,11 @@ module _ (d : Dialect) (s : Setup) (e : Lent s) where
   second : allBytes (s .signature) ≡ true
   second = and-right (allBytes (s .authentication)) (allBytes (s .signature)) e
 
-  short : Cases Short
+  short : Cases d Short
   unfolding answerTo setupAfter step
   short = record {
     resets = (reply-short d (demand-1 .defined (s .card) PowerReset refl .possible) [], e);
+    savings = λ t. (saved-short d t (s .card) (answerBuffer s), e);
     sizes = λ n. (omega (arith, small d), e);
     others = (omega (arith, small d), e);
     commands = λ b f h.
@@ -90,7 +106,7 @@ module _ (d : Dialect) (s : Setup) (e : Lent s) where
   }
 
   line-short : (line : Bytes) → (length (answerLine d s line .text) ≤ mostText d) × Lent (answerLine d s line .setup)
-  line-short = every-request Short short d
+  line-short = every-request Short d short
 
 pub short-output : ShortOutput
 short-output d p e [] = rw (at-end d (keptLine d) p) (omega arith)

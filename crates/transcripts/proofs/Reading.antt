@@ -18,8 +18,8 @@ use Rattle.requests.specs.declared.Dialect.{Dialect}
 use Rattle.requests.specs.Requests.{lineFeed, longest}
 use Rattle.lines.specs.Lines.{answerLine}
 use Rattle.lines.specs.Terminals.{setupOf, Answers}
-use Rattle.line_texts.specs.Puts.{Put}
-use Rattle.line_texts.proofs.Texts.{put-then}
+use Rattle.writing.specs.Puts.{Put}
+use Rattle.writing.proofs.Puts.{put-then}
 use Rattle.octets.proofs.Pasting.{pasted-zero}
 use Rattle.lines.proofs.Answers.{setup-read}
 use Rattle.transcripts.specs.Transcript.{Program, Run, writtenBefore, keptLine, run}

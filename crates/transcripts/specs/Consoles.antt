@@ -9,7 +9,7 @@ use Rattle.octets.specs.Octets.{Bytes, filled}
 use Rattle.requests.specs.declared.Dialect.{Dialect}
 use Rattle.requests.specs.Requests.{lineFeed}
 use Rattle.lines.specs.Terminals.{setupOf, terminalFor}
-use Rattle.line_texts.specs.Puts.{Put}
+use Rattle.writing.specs.Puts.{Put}
 use Rattle.transcripts.specs.Transcript.{Program, Run, keptLine, run}
 use Rattle.transcripts.specs.declared.Console.{Console}
 use Rattle.transcripts.specs.declared.FirstLine.{FirstLine}

@@ -3,6 +3,7 @@ ghost use mathlib.Core.Path.{_≡_};
 ghost use Prim.Native.Nat.{_-_, min};
 ghost use lib.ListN.{replicate};
 ghost use Rattle.octets.specs.Octets.{pasted};
+ghost use Rattle.writing.specs.Puts.{Put};
 
 // How many of n bytes fit into a slice of `len` bytes from index `at` on.
 fn fitting(len: usize, at: usize, n: usize) -> usize
@@ -40,4 +41,12 @@ pub fn fill(dst: &mut [u8], at: usize, n: usize, byte: u8)
         dst[at + j] = byte;
         j += 1;
     }
+}
+
+// Writes a text from index `at` on, as much of it as fits, and answers the place behind it.
+pub fn put(output: &mut [u8], at: usize, text: &[u8]) -> usize
+    ensures { λ r. ⌜ Put (now (output .entry)) at (now (text .entry)) (now (output .exit)) r ⌝ }
+{
+    copy_at(output, at, text);
+    numbers::sum_within(at, text.len(), output.len())
 }

@@ -1,12 +1,9 @@
 //! second-load < IMAGE
 
 use second::listing::listing;
-use std::io::{self, Read, Write};
+use second::program::run_on_image;
+use std::process::ExitCode;
 
-fn main() -> io::Result<()> {
-    let mut image = Vec::new();
-    io::stdin().lock().read_to_end(&mut image)?;
-    let mut out = io::stdout().lock();
-    out.write_all(listing(&image).as_bytes())?;
-    out.flush()
+fn main() -> ExitCode {
+    run_on_image("second-load", |image| listing(image).into_bytes())
 }

@@ -2,14 +2,17 @@ use borrow.Author.Needs.{needs}
 use Rattle.line_programs.proofs.read_some.Statement.{statement}
 use Rattle.line_programs.proofs.read_some.Tie as tie
 
-read-requires : tie.Need-read-requires
-read-requires c κs = search needs
+at-once-requires : tie.Need-at-once-requires
+at-once-requires c κs = search needs
+
+read-within-requires : tie.Need-read-within-requires
+read-within-requires c κs = search needs
 
 part-requires : tie.Need-part-requires
 part-requires c κs = search needs
 
-read-requires-2 : tie.Need-read-requires-2
-read-requires-2 c κs = search needs
+read-requires : tie.Need-read-requires
+read-requires c κs = search needs
 
 written-requires : tie.Need-written-requires
 written-requires c κs = search needs
@@ -18,9 +21,16 @@ same-length : tie.Need-same-length
 same-length c = search needs
 
 returns : tie.Need-returns
-returns c = (c .before .before .before .before .before .before .before .before .before .before .before .before .before .read .ensures .0, rw (c .before .before .before .before .before .before .before .before .before .before .part .ensures) at (c .before .before .before .before .before .read2 .ensures))
+returns c = (c .before .before .before .before .before .before .before .before .before .before .before .before .before .read-within .ensures .0, rw (c .before .before .before .before .before .before .before .before .before .before .part .ensures) at (c .before .before .before .before .before .read .ensures))
 
 pub read-some-spec : {M : Type 1} → statement M
 read-some-spec =
     tie.close
-    (tie.spec read-requires part-requires read-requires-2 written-requires same-length returns)
+    (tie.spec
+    at-once-requires
+    read-within-requires
+    part-requires
+    read-requires
+    written-requires
+    same-length
+    returns)

@@ -1,6 +1,7 @@
 use mathlib.Core.Path.{ap}
 use Rattle.hex.specs.Hex.{hexOf}
-use Rattle.line_texts.proofs.Texts.{put-then, put-hex, put-same}
+use Rattle.writing.proofs.Puts.{put-then, put-same}
+use Rattle.line_texts.proofs.Texts.{put-hex}
 use borrow.Author.Needs.{needs}
 use Rattle.line_texts.proofs.put_block.Statement.{statement}
 use Rattle.line_texts.proofs.put_block.Tie as tie

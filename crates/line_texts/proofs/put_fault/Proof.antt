@@ -1,4 +1,5 @@
-use Rattle.line_texts.proofs.Texts.{put-same, fault-text}
+use Rattle.writing.proofs.Puts.{put-same}
+use Rattle.line_texts.proofs.Texts.{fault-text}
 use borrow.Author.Needs.{needs}
 use Rattle.line_texts.proofs.put_fault.Statement.{statement}
 use Rattle.line_texts.proofs.put_fault.Tie as tie

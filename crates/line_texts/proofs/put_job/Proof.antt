@@ -3,7 +3,8 @@ use mathlib.Core.List.{[], _∷_}
 use Prim.Native.Nat.{ℕ}
 use Rattle.hex.specs.Hex.{hexOf}
 use Rattle.line_texts.specs.Texts.{replyText}
-use Rattle.line_texts.proofs.Texts.{put-then, put-hex, put-same}
+use Rattle.writing.proofs.Puts.{put-then, put-same}
+use Rattle.line_texts.proofs.Texts.{put-hex}
 use borrow.Author.Needs.{needs}
 use Rattle.line_texts.proofs.put_job.Statement.{statement}
 use Rattle.line_texts.proofs.put_job.Tie as tie

@@ -1,4 +1,4 @@
-use Rattle.line_texts.proofs.Texts.{put-then}
+use Rattle.writing.proofs.Puts.{put-then}
 use borrow.Author.Needs.{needs}
 use Rattle.line_texts.proofs.put_line.Statement.{statement}
 use Rattle.line_texts.proofs.put_line.Tie as tie

@@ -1,7 +1,7 @@
 use mathlib.Core.Path.{ap}
 use mathlib.Core.List.{[], _∷_}
 use Prim.Native.Nat.{ℕ}
-use Rattle.line_texts.proofs.Texts.{put-same}
+use Rattle.writing.proofs.Puts.{put-same}
 use borrow.Author.Needs.{needs}
 use Rattle.line_texts.proofs.put_refusal.Statement.{statement}
 use Rattle.line_texts.proofs.put_refusal.Tie as tie

@@ -15,8 +15,8 @@ put-requires c κs = search needs
 enum-known-reply : tie.Need-enum-known-reply
 enum-known-reply c = search needs
 
-put-response-requires : tie.Need-put-response-requires
-put-response-requires c κs = search needs
+put-lettered-requires : tie.Need-put-lettered-requires
+put-lettered-requires c κs = search needs
 
 enum-known-reply-2 : tie.Need-enum-known-reply-2
 enum-known-reply-2 c = search needs
@@ -42,7 +42,7 @@ same-length-2 c = search needs
 
 returns-2 : tie.Need-returns-2
 unfolding replyText
-returns-2 c = rw (c .before .before .before .before .before .reply .given .1) (c .before .before .put-response .ensures)
+returns-2 c = rw (c .before .before .before .before .before .reply .given .1) (c .before .before .put-lettered .ensures)
 
 same-length-3 : tie.Need-same-length-3
 same-length-3 c = search needs
@@ -65,7 +65,7 @@ put-reply-spec =
     slice-aggregate-put
     put-requires
     enum-known-reply
-    put-response-requires
+    put-lettered-requires
     enum-known-reply-2
     put-job-requires
     enum-known-reply-3

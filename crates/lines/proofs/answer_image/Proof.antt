@@ -4,7 +4,7 @@ use Prim.Native.Nat.{ℕ}
 use Rattle.rules.specs.declared.Card.{Card}
 use Rattle.requests.specs.Requests.{lineFeed}
 use Rattle.line_texts.specs.Texts.{loadText}
-use Rattle.line_texts.proofs.Texts.{put-same}
+use Rattle.writing.proofs.Puts.{put-same}
 use borrow.Author.Needs.{needs}
 use Rattle.lines.proofs.answer_image.Statement.{statement}
 use Rattle.lines.proofs.answer_image.Tie as tie

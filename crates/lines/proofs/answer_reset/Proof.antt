@@ -4,7 +4,7 @@ use Rattle.rules.specs.declared.Card.{Card}
 use Rattle.rules.specs.Numbers.{Returned}
 use Rattle.requests.specs.Requests.{lineFeed}
 use Rattle.line_texts.specs.Texts.{replyText}
-use Rattle.line_texts.proofs.Texts.{put-same}
+use Rattle.writing.proofs.Puts.{put-same}
 use borrow.Author.Needs.{needs}
 use Rattle.lines.proofs.answer_reset.Statement.{statement}
 use Rattle.lines.proofs.answer_reset.Tie as tie

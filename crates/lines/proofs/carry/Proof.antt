@@ -39,14 +39,20 @@ answer-image-requires c κs = search needs
 enum-told-2 : tie.Need-enum-told-2
 enum-told-2 c = search needs
 
+answer-saving-requires : tie.Need-answer-saving-requires
+answer-saving-requires c κs = search needs
+
+enum-told-3 : tie.Need-enum-told-3
+enum-told-3 c = search needs
+
 slice-aggregate-unchanged : tie.Need-slice-aggregate-unchanged
 slice-aggregate-unchanged c = search needs
 
 unchanged-requires : tie.Need-unchanged-requires
 unchanged-requires c κs = search needs
 
-enum-told-3 : tie.Need-enum-told-3
-enum-told-3 c = search needs
+enum-told-4 : tie.Need-enum-told-4
+enum-told-4 c = search needs
 
 slice-aggregate-unchanged-2 : tie.Need-slice-aggregate-unchanged-2
 slice-aggregate-unchanged-2 c = search needs
@@ -54,8 +60,8 @@ slice-aggregate-unchanged-2 c = search needs
 unchanged-requires-2 : tie.Need-unchanged-requires-2
 unchanged-requires-2 c κs = search needs
 
-enum-told-4 : tie.Need-enum-told-4
-enum-told-4 c = search needs
+enum-told-5 : tie.Need-enum-told-5
+enum-told-5 c = search needs
 
 slice-aggregate-unchanged-3 : tie.Need-slice-aggregate-unchanged-3
 slice-aggregate-unchanged-3 c = search needs
@@ -63,8 +69,8 @@ slice-aggregate-unchanged-3 c = search needs
 unchanged-requires-3 : tie.Need-unchanged-requires-3
 unchanged-requires-3 c κs = search needs
 
-enum-told-5 : tie.Need-enum-told-5
-enum-told-5 c = search needs
+enum-told-6 : tie.Need-enum-told-6
+enum-told-6 c = search needs
 
 slice-aggregate-unchanged-4 : tie.Need-slice-aggregate-unchanged-4
 slice-aggregate-unchanged-4 c = search needs
@@ -105,28 +111,35 @@ same-length-5 c = search needs
 
 returns-5 : tie.Need-returns-5
 unfolding answerTo
-returns-5 c = rw (c .before .before .before .before .before .enum-told2 .given .1) (record { card = c .before .before .unchanged .ensures .0; line = c .before .before .unchanged .ensures .1 })
+returns-5 c = rw (c .before .before .before .before .enum-told2 .given .1) (c .before .before .answer-saving .ensures)
 
 same-length-6 : tie.Need-same-length-6
 same-length-6 c = search needs
 
 returns-6 : tie.Need-returns-6
 unfolding answerTo
-returns-6 c = rw (c .before .before .before .before .before .enum-told3 .given .1) (record { card = c .before .before .unchanged2 .ensures .0; line = c .before .before .unchanged2 .ensures .1 })
+returns-6 c = rw (c .before .before .before .before .before .enum-told3 .given .1) (record { card = c .before .before .unchanged .ensures .0; line = c .before .before .unchanged .ensures .1 })
 
 same-length-7 : tie.Need-same-length-7
 same-length-7 c = search needs
 
 returns-7 : tie.Need-returns-7
 unfolding answerTo
-returns-7 c = rw (c .before .before .before .before .before .enum-told4 .given .1) (record { card = c .before .before .unchanged3 .ensures .0; line = c .before .before .unchanged3 .ensures .1 })
+returns-7 c = rw (c .before .before .before .before .before .enum-told4 .given .1) (record { card = c .before .before .unchanged2 .ensures .0; line = c .before .before .unchanged2 .ensures .1 })
 
 same-length-8 : tie.Need-same-length-8
 same-length-8 c = search needs
 
 returns-8 : tie.Need-returns-8
 unfolding answerTo
-returns-8 c = rw (c .before .before .before .before .before .enum-told5 .given .1) (record { card = c .before .before .unchanged4 .ensures .0; line = c .before .before .unchanged4 .ensures .1 })
+returns-8 c = rw (c .before .before .before .before .before .enum-told5 .given .1) (record { card = c .before .before .unchanged3 .ensures .0; line = c .before .before .unchanged3 .ensures .1 })
+
+same-length-9 : tie.Need-same-length-9
+same-length-9 c = search needs
+
+returns-9 : tie.Need-returns-9
+unfolding answerTo
+returns-9 c = rw (c .before .before .before .before .before .enum-told6 .given .1) (record { card = c .before .before .unchanged4 .ensures .0; line = c .before .before .unchanged4 .ensures .1 })
 
 pub carry-spec : {M : Type 1} → statement M
 carry-spec =
@@ -144,15 +157,17 @@ carry-spec =
     part-requires-3
     answer-image-requires
     enum-told-2
+    answer-saving-requires
+    enum-told-3
     slice-aggregate-unchanged
     unchanged-requires
-    enum-told-3
+    enum-told-4
     slice-aggregate-unchanged-2
     unchanged-requires-2
-    enum-told-4
+    enum-told-5
     slice-aggregate-unchanged-3
     unchanged-requires-3
-    enum-told-5
+    enum-told-6
     slice-aggregate-unchanged-4
     unchanged-requires-4
     same-length
@@ -170,4 +185,6 @@ carry-spec =
     same-length-7
     returns-7
     same-length-8
-    returns-8)
+    returns-8
+    same-length-9
+    returns-9)

@@ -49,6 +49,9 @@ enum-told-4 c = search needs
 enum-told-5 : tie.Need-enum-told-5
 enum-told-5 c = search needs
 
+enum-told-6 : tie.Need-enum-told-6
+enum-told-6 c = search needs
+
 returns : tie.Need-returns
 unfolding setupAfter
 returns c =
@@ -97,6 +100,12 @@ returns-8 c =
     let a = c .before .before .before .before .before .before .before .before .args in
     rw (c .enum-told5 .given .1) (lent-kept (a .terminal) (now (a .authentication)) (now (a .signature)) (ap length (c .before .before .before .before .before .part .ensures)) (ap length (c .before .before .part2 .ensures)) (c .before .before .before .before .before .before .part-arg2 .given .0) (c .before .before .before .part-arg4 .given .0))
 
+returns-9 : tie.Need-returns-9
+unfolding setupAfter
+returns-9 c =
+    let a = c .before .before .before .before .before .before .before .before .args in
+    rw (c .enum-told6 .given .1) (lent-kept (a .terminal) (now (a .authentication)) (now (a .signature)) (ap length (c .before .before .before .before .before .part .ensures)) (ap length (c .before .before .part2 .ensures)) (c .before .before .before .before .before .before .part-arg2 .given .0) (c .before .before .before .part-arg4 .given .0))
+
 pub settled-spec : {M : Type 1} → statement M
 settled-spec =
     tie.close
@@ -115,6 +124,7 @@ settled-spec =
     enum-told-3
     enum-told-4
     enum-told-5
+    enum-told-6
     returns
     returns-2
     returns-3
@@ -122,4 +132,5 @@ settled-spec =
     returns-5
     returns-6
     returns-7
-    returns-8)
+    returns-8
+    returns-9)
