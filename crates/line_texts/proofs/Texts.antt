@@ -1,20 +1,12 @@
 -- A text written in hex, and the text of a fault.
-use mathlib.Core.Path.{_≡_, refl}
+use mathlib.Core.Path.{_≡_}
 use mathlib.Core.List.{[], _∷_}
 use Prim.Native.Nat.{ℕ, _+_, _/_, _%_, min}
 use lib.ListN.{length}
 use Rattle.octets.specs.Octets.{Bytes, pasted}
 use Rattle.rules.specs.declared.Fault.{Fault}
-use Rattle.rules.specs.declared.Fault.the-variants.{
-  EndsEarly,
-  WrongCount,
-  BadCode,
-  BadKey,
-  BadReference,
-  RecordLength,
-  LeftOver,
-}
 use Rattle.rules.specs.Numbers.{faultNumber}
+use Rattle.rules.proofs.Numbers.{fault-some}
 use Rattle.line_texts.specs.Texts.{numeral, loadText}
 use Rattle.writing.specs.Puts.{Put}
 
@@ -22,13 +14,7 @@ use Rattle.writing.specs.Puts.{Put}
 pub put-hex : {d d₁ p : Bytes} {at e₁ : ℕ} → (e₁ ≡ min (at + length p) (length d)) × (d₁ ≡ pasted d at p) → Put d at p d₁ e₁
 put-hex f = record { whole = f .1; place = f .0 }
 
--- The number of a fault is not 0.
+-- A fault's text.
 pub fault-text : (f : Fault) → loadText (faultNumber f) ≡ 0x46 ∷ numeral (faultNumber f / 10) ∷ numeral (faultNumber f % 10) ∷ []
 unfolding loadText
-fault-text EndsEarly = refl
-fault-text WrongCount = refl
-fault-text BadCode = refl
-fault-text BadKey = refl
-fault-text BadReference = refl
-fault-text RecordLength = refl
-fault-text LeftOver = refl
+fault-text f = rw (fault-some f)

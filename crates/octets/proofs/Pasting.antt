@@ -88,7 +88,7 @@ module _ (buffer front : Bytes) (at : ℕ) (e : length front ≡ at) (next : ℕ
       rw (take-all _ s fits, take-at front (drop at buffer) at e, ← n, ← e, drop-append-add front (drop (length front) buffer) (length s), drop-drop (length s) (length front) buffer, append-assoc)
 
 -- A string written at the front.
-pasted-front : (d s : Bytes) → pasted d 0 s ≡ take (length d) s ++ drop (length s) d
+pub pasted-front : (d s : Bytes) → pasted d 0 s ≡ take (length d) s ++ drop (length s) d
 unfolding pasted
 pasted-front d s = rw (sub-zero (length d), zero-add (length s))
 
@@ -189,18 +189,14 @@ pasted-zero d at =
 
 -- A string written over its own front.
 pub pasted-own : (d : Bytes) (n : ℕ) → pasted d 0 (take n d) ≡ d
-unfolding pasted
 pasted-own d n =
     let a : Bytes = take n d in
     let b : Bytes = drop n d in
     let whole : d ≡ a ++ b = sym (take-append-drop n d) in
-    let short : length a ≤ length d - 0 = omega (arith, length-take n d) in
+    let short : length a ≤ length d = omega (arith, length-take n d) in
     let rest : drop (length a) d ≡ b = ap (drop (length a)) whole ∙ drop-append-seam a b in
-    rw (take-all (length d - 0) a short, zero-add (length a), rest) (take-append-drop n d)
+    rw (pasted-front d a, take-all (length d) a short, rest) (take-append-drop n d)
 
 -- A string read back from the front where it was written.
 pub take-pasted : (d s : Bytes) → length s ≤ length d → take (length s) (pasted d 0 s) ≡ s
-unfolding pasted
-take-pasted d s h =
-    let all : length s ≤ length d - 0 = omega arith in
-    rw (take-all (length d - 0) s all) (take-append-seam s (drop (0 + length s) d))
+take-pasted d s h = rw (pasted-front d s, take-all (length d) s h) (take-append-seam s (drop (length s) d))

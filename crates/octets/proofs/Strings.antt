@@ -1,8 +1,8 @@
 -- Laws of strings of bytes.
-use mathlib.Core.Path.{_≡_, refl}
-use mathlib.Core.Bool.{Bool, true, false, false≢true}
+use mathlib.Core.Path.{_≡_, refl, ap}
+use mathlib.Core.Bool.{Bool, true, false≢true}
 use mathlib.Core.List.{[], _∷_, _++_}
-use Prim.Native.Nat.{ℕ, zero, suc, _+_, _-_, _≤_}
+use Prim.Native.Nat.{ℕ, zero, suc, _-_, _≤_}
 use native.Mathlib.Omega.{arith}
 use lib.Dec.{eqb}
 use lib.ListN.{length, take, drop, replicate, length-append, length-replicate, length-take, length-drop}
@@ -32,9 +32,20 @@ pub all-right : (t : ℕ → Bool) (a b : Bytes) → all t (a ++ b) ≡ true →
 all-right t [] b e = e
 all-right t (x ∷ a) b e = all-right t a b (and-right (t x) (all t (a ++ b)) e)
 
+pub all-take : (t : ℕ → Bool) (n : ℕ) (d : Bytes) → all t d ≡ true → all t (take n d) ≡ true
+all-take t zero d e = refl
+all-take t (suc n) [] e = refl
+all-take t (suc n) (x ∷ d) e = rw (and-left (t x) (all t d) e) (all-take t n d (and-right (t x) (all t d) e))
+
 pub zeros-replicate : (n : ℕ) → allZero (replicate n 0) ≡ true
 zeros-replicate zero = refl
 zeros-replicate (suc n) = zeros-replicate n
+
+pub zeros-blank : (d : Bytes) → allZero d ≡ true → d ≡ blank (length d)
+unfolding blank
+zeros-blank [] e = refl
+zeros-blank (x ∷ d) e =
+    rw (eqb-true x 0 (and-left (eqb x 0) (allZero d) e)) (ap (λ (l : Bytes). 0 ∷ l) (zeros-blank d (and-right (eqb x 0) (allZero d) e)))
 
 module _ (n : ℕ) (d : Bytes) (h : length d ≤ n) where
   pub length-filled : length (filled n d) ≡ n

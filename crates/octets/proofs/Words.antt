@@ -3,12 +3,12 @@ use mathlib.Core.Path.{_≡_, refl, ap}
 use mathlib.Core.Logic.{_≢_}
 use mathlib.Core.Bool.{true, false, and-false}
 use mathlib.Core.List.{[], _∷_}
-use Prim.Native.Nat.{ℕ, suc, _≤_, _/_, _%_}
+use Prim.Native.Nat.{ℕ, suc, _≤_, _<_, _/_, _%_}
 use native.Mathlib.Nat.{div-add-mod'}
 use native.Mathlib.Omega.{arith}
-use lib.Dec.{eqb, leb}
+use lib.Dec.{eqb, leb, ltb}
 use lib.ListN.{length}
-use borrow.Author.Tests.{leb-true, lt-ltb}
+use borrow.Author.Tests.{leb-true, ltb-true, lt-ltb}
 use Rattle.octets.specs.Octets.{Bytes, word, same, digit, allDigits, allBytes}
 use Rattle.octets.proofs.Tests.{and-left, and-right}
 
@@ -29,3 +29,12 @@ unlike-length (x ∷ a) (y ∷ b) n = rw (unlike-length a b (λ e. n (ap suc e))
 -- A number is the word of its high and its low byte.
 pub word-of-halves : (n : ℕ) → word (n / 256) (n % 256) ≡ n
 word-of-halves n = div-add-mod' n 256
+
+-- Two bytes are the halves of their word.
+pub halves-of-word : (high low : ℕ) (rest : Bytes) → allBytes (high ∷ low ∷ rest) ≡ true
+    → high ∷ low ∷ rest ≡ (word high low / 256) ∷ (word high low % 256) ∷ rest
+halves-of-word high low rest e =
+    let small : low < 256 = ltb-true low 256 (and-left (ltb low 256) (allBytes rest) (and-right (ltb high 256) _ e)) in
+    let upper : word high low / 256 ≡ high = omega arith in
+    let lower : word high low % 256 ≡ low = omega arith in
+    rw (upper, lower)

@@ -1,16 +1,14 @@
 -- What load and the writer ensure, as what is put into the text.
-use Prim.Native.Nat.{ℕ, _+_, _≤_}
+use Prim.Native.Nat.{ℕ, _≤_}
 use mathlib.Core.Path.{_≡_, sym, ap, _∙_}
 use mathlib.Core.Bool.{Bool, true, false, false≢true}
 use mathlib.Core.List.{_++_}
 use native.Mathlib.Omega.{arith}
 use lib.ListN.{length, drop}
-use borrow.Author.Tests.{le-ltb, ne-eqb}
 use Rattle.octets.specs.Octets.{Bytes}
 use Rattle.writing.specs.Puts.{Put}
 use Rattle.rules.specs.declared.Card.{Card}
 use Rattle.rules.specs.declared.Fault.{Fault}
-use Rattle.rules.specs.declared.Fault.the-variants.{EndsEarly, WrongCount, BadCode, BadKey, BadReference, RecordLength, LeftOver}
 use Rattle.rules.specs.declared.Loaded.{Loaded}
 use Rattle.rules.specs.declared.LoadResult.the-variants.{Accepted, Faulty}
 use Rattle.rules.specs.declared.Refusal.{Refusal}
@@ -20,21 +18,11 @@ use Rattle.rules.specs.Numbers.{faultNumber, loadNumber, Wrote, wrote, wroteOf}
 use Rattle.rules.specs.State.{good}
 use Rattle.rules.specs.Image.{load}
 use Rattle.rules.specs.Writer.{imageOf, write}
-use Rattle.rules.proofs.Numbers.{told-apart}
-use Rattle.rules.proofs.Writing.{image-most}
+use Rattle.rules.proofs.Numbers.{told-apart, fault-some}
+use Rattle.rules.proofs.Writing.{image-most, write-whole}
 use Rattle.rules.proofs.GoodStates.{good-states}
-use Rattle.image_writer.proofs.Edges.{pasted-front}
+use Rattle.image_writer.proofs.Edges.{image-front}
 use Rattle.rewriting.specs.Rewriting.{numberText, rewritten}
-
--- No fault has the number 0.
-not-zero : (f : Fault) → faultNumber f ≡ 0 → ⊥
-not-zero EndsEarly e = absurd (omega arith)
-not-zero WrongCount e = absurd (omega arith)
-not-zero BadCode e = absurd (omega arith)
-not-zero BadKey e = absurd (omega arith)
-not-zero BadReference e = absurd (omega arith)
-not-zero RecordLength e = absurd (omega arith)
-not-zero LeftOver e = absurd (omega arith)
 
 -- The length in an answer of the writer.
 lengthIn : WriteResult → ℕ
@@ -47,12 +35,11 @@ isWritten (Written n) = true
 
 -- The writer on a good card and a text of 1,116 bytes.
 module _ (c : Card) (text : Bytes) (g : good c ≡ true) (size : length text ≡ 1116) where
-  fits : length (imageOf c) ≤ length text
-  fits = omega (arith, image-most c g)
+  room : 1115 ≤ length text
+  room = omega arith
 
   whole : write c text ≡ (wrote (length (imageOf c)), imageOf c ++ drop (length (imageOf c)) text)
-  unfolding write
-  whole = rw (g, le-ltb (length text) 1115 (omega arith))
+  whole = write-whole c text g room
 
   module _ (r : WriteResult) {after : Bytes} (e : _≡_ {A = Wrote × Bytes} (wroteOf r, after) (write c text)) where
     -- it answers the image's length, and no other case has that value
@@ -61,8 +48,8 @@ module _ (c : Card) (text : Bytes) (g : good c ≡ true) (size : length text ≡
 
     put-whole : Put text 0 (imageOf c) after (length (imageOf c))
     put-whole = record {
-      whole = ap (λ (x : Wrote × Bytes). x .1) (e ∙ whole) ∙ sym (pasted-front text (imageOf c) fits);
-      place = omega (arith, fits);
+      whole = ap (λ (x : Wrote × Bytes). x .1) (e ∙ whole) ∙ sym (image-front c text g room);
+      place = omega (arith, image-most c g);
     }
 
     pub image-put : {n : ℕ} → r ≡ Written n → Put text 0 (imageOf c) after n
@@ -98,4 +85,4 @@ module _ (image : Bytes) (r : Loaded) (e : _≡_ {A = ℕ × Card} (loadNumber (
   unfolding rewritten
   refused-text {f} t =
       let same : load image .0 ≡ faultNumber f = number ∙ ap loadNumber t in
-      rw (same, ne-eqb (faultNumber f) 0 (not-zero f))
+      rw (same, fault-some f)

@@ -1,15 +1,16 @@
 -- What the writer answers, and that load and the writer are each other's inverse.
 use mathlib.Core.Path.{_≡_, refl, sym, ap, subst, _∙_}
-use mathlib.Core.Bool.{Bool, true, false, not, false≢true}
+use mathlib.Core.Bool.{Bool, true, false, false≢true}
 use mathlib.Core.List.{List, [], _∷_, _++_}
-use Prim.Native.Nat.{ℕ, zero, suc, _+_, _≤_, _<_}
+use Prim.Native.Nat.{ℕ, _≤_, _<_}
 use native.Mathlib.Omega.{arith}
 use lib.Dec.{leb, ltb}
 use lib.ListN.{length, take, drop, replicate, length-append, length-take, length-drop}
 use lib.Seq.{drop-append-seam, take-at}
-use borrow.Author.Tests.{leb-true, leb-false, ltb-true, ltb-false, lt-ltb, le-ltb, not-true, not-false}
-use Rattle.octets.specs.Octets.{Bytes, all, allBytes, blank, filled, goodRoom}
-use Rattle.octets.proofs.Tests.{split, by-test, either, and-left, and-right, below-three}
+use borrow.Author.Tests.{leb-true, leb-false, ltb-true, ltb-false}
+use Rattle.octets.specs.Octets.{Bytes, allBytes, blank, filled, goodRoom}
+use Rattle.octets.proofs.Tests.{by-test, either, below-three}
+use Rattle.octets.proofs.Strings.{all-take}
 use Rattle.rules.specs.declared.Card.{Card}
 use Rattle.rules.specs.declared.Code.{Code}
 use Rattle.rules.specs.Numbers.{Wrote, unwritten, wrote}
@@ -28,7 +29,7 @@ use Rattle.rules.specs.Demands.{Counted}
 use Rattle.rules.specs.ImageLaws.{WriteDue, badState, shortBuffer, WriteDefined, Written, WrittenIn, Inverse, FirstBytes, FromGoodCards}
 use Rattle.rules.proofs.Parts.{good-codes, three-codes}
 use Rattle.rules.proofs.Loading.{fresh}
-use Rattle.rules.proofs.Writing.{image-loads, image-followed, image-least, image-most}
+use Rattle.rules.proofs.Writing.{image-loads, image-followed, image-least, image-most, write-bad, write-short, write-whole}
 use Rattle.rules.proofs.FirstBytes.{first-bytes}
 use Rattle.rules.proofs.Demand3.{demand-3}
 
@@ -91,15 +92,16 @@ module _ (c : Card) (buffer : Bytes) where
       → (good c ≡ true → length buffer < 1115 → P (unwritten 2, buffer))
       → (good c ≡ true → 1115 ≤ length buffer → P (wrote (length (imageOf c)), imageOf c ++ drop (length (imageOf c)) buffer))
       → P (write c buffer)
-  unfolding write
   write-ways P bad short whole =
-      split P (not (good c)) (λ e. bad (not-true _ e))
-      (λ g. split P (shortForImage buffer) (λ e. short (not-false _ g) (ltb-true _ _ e)) (λ e. whole (not-false _ g) (ltb-false _ _ e)))
+      by-test _ (good c)
+      (λ g. by-test _ (shortForImage buffer)
+      (λ e. let h : length buffer < 1115 = ltb-true _ _ e in rw (write-short c buffer g h) (short g h))
+      (λ e. let h : 1115 ≤ length buffer = ltb-false _ _ e in rw (write-whole c buffer g h) (whole g h)))
+      (λ g. rw (write-bad c buffer g) (bad g))
 
   due-refused : (n : ℕ) → WriteDue c buffer n → write c buffer .0 ≡ unwritten n
-  unfolding write
-  due-refused n (badState g) = rw g
-  due-refused n (shortBuffer g h) = rw (g, lt-ltb _ _ h)
+  due-refused n (badState g) = rw (write-bad c buffer g)
+  due-refused n (shortBuffer g h) = rw (write-short c buffer g h)
 
   refused-due : (n : ℕ) → write c buffer .0 ≡ unwritten n → WriteDue c buffer n
   unfolding refusalOf
@@ -145,8 +147,7 @@ call-loads c buffer n =
 -- A state just loaded is written as its image.
 call-restores : (image buffer : Bytes) → allBytes image ≡ true → load image .0 ≡ 0 → 1115 ≤ length buffer
     → write (load image .1) buffer ≡ (wrote (length image), image ++ drop (length image) buffer)
-unfolding write
-call-restores image buffer b e h = rw (fresh image e .isGood, le-ltb (length buffer) 1115 h, restored image b e)
+call-restores image buffer b e h = rw (write-whole (load image .1) buffer (fresh image e .isGood) h, restored image b e)
 
 images-apart : (a b : Bytes) → allBytes a ≡ true → allBytes b ≡ true → load a .0 ≡ 0 → load b .0 ≡ 0 → load a .1 ≡ load b .1 → a ≡ b
 images-apart a b p q e f same = sym (restored a p e) ∙ ap imageOf same ∙ restored b q f
@@ -182,11 +183,6 @@ longest-bytes : allBytes (imageOf (longest .card)) ≡ true
 unfolding longest longestCard sampleCard filled blank imageOf codesImage codeImage keysImage keysAmong present keyBytes referencesImage personalImage recordsImage recordImage
 longest-bytes = refl
 
-all-taken : (t : ℕ → Bool) (n : ℕ) (d : Bytes) → all t d ≡ true → all t (take n d) ≡ true
-all-taken t zero d e = refl
-all-taken t (suc n) [] e = refl
-all-taken t (suc n) (x ∷ d) e = rw (and-left (t x) (all t d) e) (all-taken t n d (and-right (t x) (all t d) e))
-
 not-fewer : (n : ℕ) → n ≤ 1115 → ((image : Bytes) → load (take n image) ≡ load image) → 1116 ≤ n
 not-fewer n h each =
     let c : Card = longest .card in
@@ -199,7 +195,7 @@ not-fewer n h each =
     absurd (omega arith))
     (λ e.
     let loads : load (take n (imageOf c)) .0 ≡ 0 = ap (λ (r : ℕ × Card). r .0) (each (imageOf c)) ∙ loads-zero c g in
-    let same : take n (imageOf c) ≡ imageOf c = images-apart (take n (imageOf c)) (imageOf c) (all-taken (λ x. ltb x 256) n (imageOf c) longest-bytes) longest-bytes loads (loads-zero c g) (ap (λ (r : ℕ × Card). r .1) (each (imageOf c))) in
+    let same : take n (imageOf c) ≡ imageOf c = images-apart (take n (imageOf c)) (imageOf c) (all-take (λ x. ltb x 256) n (imageOf c) longest-bytes) longest-bytes loads (loads-zero c g) (ap (λ (r : ℕ × Card). r .1) (each (imageOf c))) in
     absurd (omega (arith, ap length same, length-take n (imageOf c))))
 
 pub first-bytes-law : FirstBytes

@@ -2,7 +2,7 @@
 use mathlib.Core.Path.{_≡_, refl, sym, ap, _∙_}
 use mathlib.Core.Bool.{Bool, true, false, cond, _&&_, _||_, or-false}
 use mathlib.Core.List.{List, [], _∷_, _++_, append-assoc, append-nil}
-use Prim.Native.Nat.{ℕ, zero, suc, _+_, _*_, _/_, _%_, _≤_, _<_}
+use Prim.Native.Nat.{ℕ, zero, suc, _+_, _*_, _≤_, _<_}
 use native.Mathlib.Omega.{arith}
 use lib.Dec.{eqb, leb, ltb}
 use lib.ListN.{length, take}
@@ -10,6 +10,7 @@ use borrow.Author.Tests.{eqb-true, leb-true, ltb-true, eq-eqb, ne-eqb, le-leb}
 use Rattle.octets.specs.Octets.{Bytes, word, member, all, allBytes, blank, filled, goodRoom}
 use Rattle.octets.proofs.Tests.{and-left, and-right, or-cases, below-three}
 use Rattle.octets.proofs.Strings.{all-right, take-filled}
+use Rattle.octets.proofs.Words.{halves-of-word}
 use Rattle.octets.proofs.Lists.{between, byte-after, rest-after}
 use Rattle.rules.specs.declared.Card.{Card}
 use Rattle.rules.specs.declared.Code.{Code}
@@ -25,7 +26,7 @@ use Rattle.rules.specs.Writer.{codeImage, codesImage, keysAmong, keysOn,
 use Rattle.rules.specs.Writer.{recordImage, recordsImage, personalImage, imageOf}
 use Rattle.rules.specs.Counting.{imageFrom, triesAtLoad}
 use Rattle.rules.specs.Demands.{Images}
-use Rattle.rules.proofs.Parts.{filled-room, marked-good, stored-good, codes-good, good-card}
+use Rattle.rules.proofs.Parts.{filled-room, marked-good, stored-good, codes-good, records-first, good-card}
 use Rattle.rules.proofs.Sessions.{new-session-good}
 
 -- A fault's number.
@@ -176,15 +177,6 @@ codeSection-ensures image =
       size = omega arith;
     })))))
 
--- A key number's two bytes, where they are bytes.
-two-bytes : (high low : ℕ) (rest : Bytes) → allBytes (high ∷ low ∷ rest) ≡ true
-    → high ∷ low ∷ rest ≡ (word high low / 256) ∷ (word high low % 256) ∷ rest
-two-bytes high low rest e =
-    let small : low < 256 = ltb-true low 256 (and-left (ltb low 256) (allBytes rest) (and-right (ltb high 256) _ e)) in
-    let upper : word high low / 256 ≡ high = omega arith in
-    let lower : word high low % 256 ≡ low = omega arith in
-    rw (upper, lower)
-
 -- A known key, and above the last one.
 abbrev pub knownAbove : ℕ → ℕ → Bool
 knownAbove last key = (signatureKey key || authenticationKey key) && ltb last key
@@ -203,7 +195,7 @@ readKey-ensures last b =
     let bytes : b ≡ high ∷ low ∷ b₃ = rw (h₁ .what .joined, h₂ .what .joined, h₃ .what .stays) in
     found (record {
       what = record {
-        joined = λ e. bytes ∙ two-bytes high low b₃ (rw bytes at e);
+        joined = λ e. bytes ∙ halves-of-word high low b₃ (rw bytes at e);
         passed = h₃ .what .passed;
       };
       size = omega arith;
@@ -366,12 +358,6 @@ referenceSection-ensures keys b =
       size = omega arith;
     }))))
 
--- A good record before good records.
-records-good : (n : ℕ) (r : Record) (rs : List Record) → goodRecord r ≡ true → goodRecords n rs ≡ true → goodRecords (suc n) (r ∷ rs) ≡ true
-unfolding goodRecords
-records-good zero r rs p q = p
-records-good (suc n) r rs p q = rw (records-good n r rs p (and-left (goodRecords n rs) _ q)) (and-right (goodRecords n rs) _ q)
-
 -- A record read from the bytes b.
 record OneRecord (b : Bytes) (r : Record) (rest : Bytes) : Type 0 where
   joined : b ≡ recordImage r ++ rest
@@ -407,7 +393,7 @@ readRecords-ensures (suc n) b =
     found (record {
       what = record {
         joined = rw (h₁ .what .joined, h₂ .what .joined, append-assoc);
-        isGood = records-good n r rs (h₁ .what .isGood) (h₂ .what .isGood);
+        isGood = rw (records-first n r rs, h₁ .what .isGood) (h₂ .what .isGood);
         number = omega arith;
       };
       size = omega arith;

@@ -1,8 +1,10 @@
--- The number definitions lose nothing: each has an inverse.
+-- The number definitions lose nothing: each has an inverse. So no fault has the number of an accepted image.
 use mathlib.Core.Path.{_≡_, refl, sym, ap, _∙_}
-use mathlib.Core.Bool.{cond}
+use mathlib.Core.Bool.{false, cond}
 use Prim.Native.Nat.{ℕ}
+use native.Mathlib.Omega.{arith}
 use lib.Dec.{eqb}
+use borrow.Author.Tests.{ne-eqb}
 use Rattle.rules.specs.declared.Named.{Named}
 use Rattle.rules.specs.declared.Named.the-variants.{Is, Nothing}
 use Rattle.rules.specs.declared.Parsed.{Parsed}
@@ -134,3 +136,8 @@ told-apart =
       forms = apart lengthForm parsedOf form-back;
       names = apart naming namedOf named-back;
     }
+
+pub fault-some : (f : Fault) → eqb (faultNumber f) 0 ≡ false
+fault-some f = ne-eqb (faultNumber f) 0 (λ e.
+    let same : Faulty f ≡ Accepted = told-apart .loads (Faulty f) Accepted e in
+    let none : _≡_ {A = ℕ} 0 1 = cc in omega arith)

@@ -1,23 +1,24 @@
 -- What a good state's parts obey, and a good state made of good parts.
-use mathlib.Core.Path.{_≡_}
+use mathlib.Core.Path.{_≡_, sym}
 use mathlib.Core.Logic.{_≢_}
-use mathlib.Core.Bool.{Bool, true, false, not, _&&_, _||_}
+use mathlib.Core.Bool.{Bool, true, false, not, _&&_, _||_, and-true, and-assoc}
 use mathlib.Core.List.{List, [], _∷_}
-use Prim.Native.Nat.{ℕ, _≤_, _<_}
+use Prim.Native.Nat.{ℕ, zero, suc, _-_, _≤_, _<_}
 use native.Mathlib.Omega.{arith}
 use lib.Dec.{eqb, leb}
-use lib.ListN.{length, getD, set, take, drop, length-take}
+use lib.ListN.{length, getD, set, take, drop, length-take, length-drop, take-append-drop}
 use lib.Seq.{getD-set-same, getD-set-other}
 use borrow.Author.Tests.{eqb-true, leb-true, eq-eqb, le-leb}
-use Rattle.octets.specs.Octets.{Bytes, allDigits, allZero, filled, goodRoom}
+use Rattle.octets.specs.Octets.{Bytes, allDigits, allZero, blank, filled, goodRoom}
 use Rattle.octets.proofs.Tests.{split, and-left, and-right, nth, below-three}
-use Rattle.octets.proofs.Strings.{length-filled, take-filled, rest-filled}
+use Rattle.octets.proofs.Strings.{zeros-blank, length-filled, take-filled, rest-filled}
 use Rattle.rules.specs.declared.Card.{Card}
 use Rattle.rules.specs.declared.Code.{Code}
 use Rattle.rules.specs.Codes.{PUK, PIN1, PIN2, least, most, fullTries, allowed, value, storing, marked, zeroCode}
 use Rattle.rules.specs.Codes.{codeOf}
 use Rattle.rules.specs.declared.Profile.{Profile}
-use Rattle.rules.specs.State.{goodCode, goodCodes, goodReferences, goodRecords, goodProfile, goodSession, good}
+use Rattle.rules.specs.declared.Record.{Record}
+use Rattle.rules.specs.State.{goodCode, goodCodes, goodReferences, goodRecord, goodRecords, goodProfile, goodSession, good}
 
 -- A string in room of a stated size.
 module _ (size : ℕ) (bytes : Bytes) (len : ℕ) (g : goodRoom size bytes len ≡ true) where
@@ -34,6 +35,14 @@ module _ (size : ℕ) (bytes : Bytes) (len : ℕ) (g : goodRoom size bytes len �
 
   pub room-taken : length (take len bytes) ≡ len
   room-taken = omega (arith, length-take len bytes, room-size, room-len)
+
+  -- it is what stands in its first places, with zeros after it
+  pub room-filled : filled size (take len bytes) ≡ bytes
+  unfolding filled goodRoom
+  room-filled =
+      let rest : drop len bytes ≡ blank (length (drop len bytes)) = zeros-blank (drop len bytes) (nth tests 2 g) in
+      let left : size - length (take len bytes) ≡ length (drop len bytes) = omega (arith, room-taken, room-size, length-drop len bytes) in
+      rw (left, ← rest) (take-append-drop len bytes)
 
 pub filled-room : (size : ℕ) (d : Bytes) → length d ≤ size → goodRoom size (filled size d) (length d) ≡ true
 unfolding goodRoom
@@ -117,6 +126,12 @@ module _ (codes : List Code) (g : goodCodes codes ≡ true) where
 pub codes-good : (codes : List Code) → length codes ≡ 3 → ((k : ℕ) → k < 3 → goodCode k (codeOf codes k) ≡ true) → goodCodes codes ≡ true
 unfolding goodCodes
 codes-good codes n each = simp (eq-eqb (length codes) 3 n, each 0 (omega arith), each 1 (omega arith), each 2 (omega arith))
+
+-- Good records: the first, and the others.
+pub records-first : (n : ℕ) (r : Record) (rs : List Record) → goodRecords (suc n) (r ∷ rs) ≡ (goodRecord r && goodRecords n rs)
+unfolding goodRecords
+records-first zero r rs = sym (and-true (goodRecord r))
+records-first (suc n) r rs = rw (records-first n r rs) (and-assoc (goodRecord r) (goodRecords n rs) _)
 
 -- A good profile.
 module _ (p : Profile) (g : goodProfile p ≡ true) where

@@ -3,12 +3,12 @@ use mathlib.Core.Path.{_≡_}
 use mathlib.Core.Bool.{true, false}
 use mathlib.Core.List.{[]}
 use Prim.Native.Nat.{ℕ, _+_, _-_, _/_, _%_, _≤_}
-use native.Mathlib.Nat.{div-add-mod'}
 use native.Mathlib.Omega.{arith}
 use lib.ListN.{length, drop, length-append, length-drop}
 use lib.Seq.{drop-append-add, getD-append-add, getD-at}
 use borrow.Author.Tests.{ne-eqb, le-leb}
 use Rattle.octets.specs.Octets.{Bytes, byteAt}
+use Rattle.octets.proofs.Words.{word-of-halves}
 use Rattle.rules.specs.Numbers.{responded}
 use Rattle.rules.specs.Edge.{responseIn}
 use Rattle.rules.specs.Counting.{returnedStatus, wrongStatus, okStatus}
@@ -29,7 +29,7 @@ module _ (buffer d : Bytes) (sw : ℕ) where
       let high : byteAt (responseIn buffer d sw) (length d + 2 - 2) ≡ sw / 256 = getD-at d (sw / 256) _ 0 _ (omega arith) in
       let place : length d + 2 - 1 ≡ length d + 1 = omega arith in
       let low : byteAt (responseIn buffer d sw) (length d + 2 - 1) ≡ sw % 256 = rw place (getD-append-add d _ 1 0) in
-      rw (high, low) (div-add-mod' sw 256)
+      rw (high, low) (word-of-halves sw)
 
 -- A status word alone.
 pub status-read : (w : Bytes) (sw : ℕ) → returnedStatus (responded (length {A = ℕ} [] + 2)) (responseIn w [] sw) ≡ sw

@@ -1,19 +1,20 @@
--- What the writer makes of a good card loads, as that card after a power reset.
+-- What the writer makes of a good card loads, as that card after a power reset; and what the call gives.
 use mathlib.Core.Path.{_≡_, refl, ap, subst}
 use mathlib.Core.Bool.{Bool, true, false, _&&_, _||_, false≢true}
 use mathlib.Core.List.{List, [], _∷_, _++_, append-assoc, append-nil}
-use Prim.Native.Nat.{ℕ, zero, suc, _-_, _≤_, _<_}
+use Prim.Native.Nat.{ℕ, _≤_, _<_}
 use native.Mathlib.Omega.{arith}
 use lib.Dec.{eqb, leb}
-use lib.ListN.{length, take, drop, take-append-drop, length-take, length-drop}
-use borrow.Author.Tests.{eqb-true, le-leb}
-use Rattle.octets.specs.Octets.{Bytes, all, digit, allZero, blank, filled, goodRoom}
-use Rattle.octets.proofs.Tests.{and-left, and-right, or-cases, nth}
+use lib.ListN.{length, take, drop}
+use borrow.Author.Tests.{eqb-true, le-leb, lt-ltb, le-ltb}
+use Rattle.octets.specs.Octets.{Bytes, all, digit, goodRoom}
+use Rattle.octets.proofs.Tests.{and-left, and-right, or-cases}
 use Rattle.rules.specs.declared.Card.{Card}
 use Rattle.rules.specs.declared.Code.{Code}
 use Rattle.rules.specs.declared.Record.{Record}
 use Rattle.rules.specs.declared.Profile.{Profile}
 use Rattle.rules.specs.declared.JobKind.the-variants.{Authenticate, Sign}
+use Rattle.rules.specs.Numbers.{unwritten, wrote}
 use Rattle.rules.specs.Codes.{PUK, PIN1, PIN2, least, most, value, marked, codeOf, closed}
 use Rattle.rules.specs.Keys.{signatureKey, authenticationKey, ofClass, present, usable, activeKey}
 use Rattle.rules.specs.State.{goodCode, goodCodes, goodReferences, goodRecord, goodRecords, goodProfile, good}
@@ -21,10 +22,10 @@ use Rattle.rules.specs.Edge.{powerReset}
 use Rattle.rules.specs.Image.{got, continued, pure, byteIf, bytesIf, readCode, codeSection, readKey, readKeys, keySection}
 use Rattle.rules.specs.Image.{referenceSection, readPersonal, readRecords, personalSection, end, readCard, loaded, load}
 use Rattle.rules.specs.Writer.{codeImage, codesImage, keysAmong, keysImage, keyBytes, referencesImage, recordImage}
-use Rattle.rules.specs.Writer.{recordsImage, personalImage, imageOf}
-use Rattle.rules.proofs.Parts.{room-size, room-len, room-taken, code-room, code-least, code-most, code-digits, code-tries, code-length}
+use Rattle.rules.specs.Writer.{recordsImage, personalImage, imageOf, write}
+use Rattle.rules.proofs.Parts.{room-len, room-taken, room-filled, code-room, code-least, code-most, code-digits, code-tries, code-length}
 use Rattle.rules.proofs.Parts.{three-codes, good-code, four-keys, good-references, sixteen-records, good-records}
-use Rattle.rules.proofs.Parts.{good-codes, good-profile}
+use Rattle.rules.proofs.Parts.{records-first, good-codes, good-profile}
 use Rattle.rules.proofs.Sessions.{references-length, active-usable}
 use Rattle.rules.proofs.Loading.{Fresh, fresh}
 
@@ -48,23 +49,6 @@ count-read test n count d rest e h = rw (← e) (bytes-read test n d rest h)
 any-passes : (d : Bytes) → all (λ x. true) d ≡ true
 any-passes [] = refl
 any-passes (x ∷ d) = any-passes d
-
--- Zeros alone.
-zeros-blank : (d : Bytes) → allZero d ≡ true → d ≡ blank (length d)
-unfolding blank
-zeros-blank [] e = refl
-zeros-blank (x ∷ d) e =
-    rw (eqb-true x 0 (and-left (eqb x 0) (allZero d) e)) (ap (λ (l : Bytes). 0 ∷ l) (zeros-blank d (and-right (eqb x 0) (allZero d) e)))
-
--- A string in good room is what stands in its first places, with zeros after it.
-room-filled : (size : ℕ) (bytes : Bytes) (len : ℕ) → goodRoom size bytes len ≡ true → filled size (take len bytes) ≡ bytes
-unfolding filled goodRoom
-room-filled size bytes len g =
-    let zeros : allZero (drop len bytes) ≡ true = nth (eqb (length bytes) size ∷ leb len size ∷ allZero (drop len bytes) ∷ []) 2 g in
-    let rest : drop len bytes ≡ blank (length (drop len bytes)) = zeros-blank (drop len bytes) zeros in
-    let left : size - length (take len bytes) ≡ length (drop len bytes) =
-    omega (arith, length-take len bytes, length-drop len bytes, room-size size bytes len g, room-len size bytes len g) in
-    rw (left, ← rest) (take-append-drop len bytes)
 
 -- A good code, read back with its mark off.
 code-read : (k : ℕ) (v : Code) (rest : Bytes) → goodCode k v ≡ true → readCode k (codeImage v ++ rest) ≡ got (marked v (v .tries) false) rest
@@ -177,21 +161,17 @@ personal-read r rest g =
       size,
     )
 
--- Good records, the first and the others.
-records-parts : (n : ℕ) (r : Record) (rs : List Record) → goodRecords (suc n) (r ∷ rs) ≡ true → (goodRecord r ≡ true) × (goodRecords n rs ≡ true)
-unfolding goodRecords
-records-parts zero r rs g = (g, refl)
-records-parts (suc n) r rs g =
-    let before : (goodRecord r ≡ true) × (goodRecords n rs ≡ true) = records-parts n r rs (and-left (goodRecords (suc n) (r ∷ rs)) _ g) in
-    (before .0, rw (before .1) (and-right (goodRecords (suc n) (r ∷ rs)) _ g))
-
 records-read : (rs : List Record) (rest : Bytes) → goodRecords (length rs) rs ≡ true
     → readRecords (length rs) (recordsImage rs ++ rest) ≡ got rs rest
 unfolding readRecords recordsImage
 records-read [] rest g = refl
 records-read (r ∷ rs) rest g =
-    let parts : (goodRecord r ≡ true) × (goodRecords (length rs) rs ≡ true) = records-parts (length rs) r rs g in
-    rw (append-assoc (recordImage r) (recordsImage rs) rest, personal-read r (recordsImage rs ++ rest) (parts .0), records-read rs rest (parts .1))
+    let both : (goodRecord r && goodRecords (length rs) rs) ≡ true = rw (records-first (length rs) r rs) at g in
+    rw (
+      append-assoc (recordImage r) (recordsImage rs) rest,
+      personal-read r (recordsImage rs ++ rest) (and-left (goodRecord r) _ both),
+      records-read rs rest (and-right (goodRecord r) _ both),
+    )
 
 -- Sixteen good records, read back.
 personals-read : (rs : List Record) (rest : Bytes) → length rs ≡ 16 → goodRecords 16 rs ≡ true
@@ -237,3 +217,18 @@ image-least c g = image-sizes c g .0
 
 pub image-most : (c : Card) → good c ≡ true → length (imageOf c) ≤ 1115
 image-most c g = image-sizes c g .1
+
+-- What the call gives: on a bad state, with a short buffer, else.
+module _ (c : Card) (buffer : Bytes) where
+  pub write-bad : good c ≡ false → write c buffer ≡ (unwritten 1, buffer)
+  unfolding write
+  write-bad g = rw g
+
+  pub write-short : good c ≡ true → length buffer < 1115 → write c buffer ≡ (unwritten 2, buffer)
+  unfolding write
+  write-short g h = rw (g, lt-ltb (length buffer) 1115 h)
+
+  pub write-whole : good c ≡ true → 1115 ≤ length buffer
+      → write c buffer ≡ (wrote (length (imageOf c)), imageOf c ++ drop (length (imageOf c)) buffer)
+  unfolding write
+  write-whole g h = rw (g, le-ltb (length buffer) 1115 h)
