@@ -151,36 +151,10 @@ fn execute(card: &mut CardState, request: Request, certificates: Certificates) -
             Code { verified: true, .. } => done(),
             Code { tries, .. } => Err(status::WRONG_CODE | tries as u16),
         },
-        Request::Verify { code, value } => {
-            let right = value == card.codes[code].value.get();
-            present(&mut card.codes[code], right)?;
-            card.codes[code].tries = MAX_TRIES;
-            card.codes[code].verified = true;
-            done()
-        }
-        Request::Change { code, data } => {
-            let new = present_and_split(&mut card.codes[code], data)?;
-            store(card, code, new)?;
-            done()
-        }
-        Request::UnblockByMark { pin } => {
-            refuse_unless_blocked(card, pin)?;
-            if !card.codes[PUK].verified {
-                return Err(status::NOT_VERIFIED);
-            }
-            card.codes[pin].tries = MAX_TRIES;
-            card.codes[pin].verified = false;
-            card.codes[PUK].verified = false;
-            done()
-        }
-        Request::UnblockByPuk { pin, data } => {
-            refuse_unless_blocked(card, pin)?;
-            let new = present_and_split(&mut card.codes[PUK], data)?;
-            store(card, pin, new)?;
-            card.codes[PUK].tries = MAX_TRIES;
-            card.codes[PUK].verified = false;
-            done()
-        }
+        Request::Verify { code, value } => verify(&mut card.codes[code], value),
+        Request::Change { code, data } => change(&mut card.codes[code], code, data),
+        Request::UnblockByMark { pin } => unblock_by_mark(card, pin),
+        Request::UnblockByPuk { pin, data } => unblock_by_puk(card, pin, data),
         Request::RestoreEnvironment(number) => {
             if number != 1 && number != 6 {
                 return Err(status::REFERENCE_NOT_FOUND);
@@ -288,14 +262,59 @@ fn present_and_split<'a>(code: &mut Code, data: &'a [u8]) -> Result<&'a [u8], u1
     Ok(&data[code.value.length..])
 }
 
-/// "New not of allowed length or not digits: 6A80, codes unchanged. Else new
-/// stored, tries 3, mark off."
-fn store(card: &mut CardState, code: usize, new: &[u8]) -> Result<(), u16> {
-    if !code_allowed(code, new) {
-        return Err(status::BAD_DATA);
-    }
-    card.codes[code] = Code { value: Bytes::of(new), tries: MAX_TRIES, verified: false };
-    Ok(())
+/// "New not of allowed length or not digits: 6A80, codes unchanged."
+fn refuse_unless_allowed(number: usize, new: &[u8]) -> Result<(), u16> {
+    if code_allowed(number, new) { Ok(()) } else { Err(status::BAD_DATA) }
+}
+
+/// "Right: tries 3, mark on, 9000."
+fn verify(code: &mut Code, value: &[u8]) -> Judged {
+    let right = value == code.value.get();
+    present(code, right)?;
+    open(code);
+    done()
+}
+
+/// "Else new stored, tries 3"; and wish 4: "a successful CHANGE leaves the code verified".
+fn change(code: &mut Code, number: usize, data: &[u8]) -> Judged {
+    let new = present_and_split(code, data)?;
+    refuse_unless_allowed(number, new)?;
+    code.value = Bytes::of(new);
+    open(code);
+    done()
+}
+
+fn open(code: &mut Code) {
+    code.tries = MAX_TRIES;
+    code.verified = true;
+}
+
+/// "PUK not verified 6982; else tries 3, PIN and PUK marks off, 9000."
+fn unblock_by_mark(card: &mut CardState, pin: usize) -> Judged {
+    refuse_unless_blocked(card, pin)?;
+    verified(card, PUK)?;
+    card.codes[pin].tries = MAX_TRIES;
+    close_pin_and_puk(card, pin);
+    done()
+}
+
+/// "PUK judged as the old value in CHANGE, 6983 at no tries included; bad new PIN 6A80, codes
+/// unchanged; else PIN stored, both tries 3, both marks off, 9000."
+fn unblock_by_puk(card: &mut CardState, pin: usize, data: &[u8]) -> Judged {
+    refuse_unless_blocked(card, pin)?;
+    let new = present_and_split(&mut card.codes[PUK], data)?;
+    refuse_unless_allowed(pin, new)?;
+    card.codes[pin].value = Bytes::of(new);
+    card.codes[pin].tries = MAX_TRIES;
+    card.codes[PUK].tries = MAX_TRIES;
+    close_pin_and_puk(card, pin);
+    done()
+}
+
+/// Wish 4: "RESET RETRY, however it stores a new value now, keeps the mark off".
+fn close_pin_and_puk(card: &mut CardState, pin: usize) {
+    card.codes[pin].verified = false;
+    card.codes[PUK].verified = false;
 }
 
 /// "PIN has tries: 6A86"

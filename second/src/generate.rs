@@ -2,7 +2,8 @@
 //! knows the present codes, the waiting job and the held answer.
 
 use crate::card::digest_heads;
-use crate::state::{shortest_code, DECIPHER, PIN1, PIN2, PUK};
+use crate::generate_changing::first_case;
+use crate::state::{shortest_code, DECIPHER, LONGEST_CODE, PIN1, PIN2, PUK};
 use crate::{hex, padding, CardState};
 use std::collections::VecDeque;
 
@@ -70,12 +71,14 @@ pub struct Generator<S> {
     pub(crate) random: Random,
     pub(crate) session: S,
     pub(crate) made: usize,
+    /// Goes through the cases of `generate_changing`.
+    pub(crate) next_case: usize,
     pending: VecDeque<Vec<u8>>,
 }
 
 impl<S: Played> Generator<S> {
     pub(crate) fn on(session: S, seed: u64) -> Self {
-        Generator { random: Random(seed), session, made: 0, pending: VecDeque::new() }
+        Generator { random: Random(seed), session, made: 0, next_case: first_case(seed), pending: VecDeque::new() }
     }
 
     pub(crate) fn line(&mut self, line: Vec<u8>) {
@@ -100,16 +103,16 @@ impl<S: Played> Generator<S> {
         if self.random.percent(3) {
             S::interruption(self);
         }
-        let mut apdu = vec![class, ins, p1, p2];
-        if !data.is_empty() {
-            apdu.push(data.len() as u8);
-            apdu.extend(data);
-        }
-        apdu.extend(le);
+        let mut apdu = apdu([class, ins, p1, p2], data, le);
         if self.random.percent(5) {
             self.damage(&mut apdu);
         }
         self.call(b'C', &apdu);
+    }
+
+    /// A command line, neither damaged nor preceded by another line.
+    pub(crate) fn send_alone(&mut self, header: [u8; 4], data: &[u8], le: Option<u8>) {
+        self.call(b'C', &apdu(header, data, le));
     }
 
     fn damage(&mut self, apdu: &mut Vec<u8>) {
@@ -190,15 +193,26 @@ impl<S: Played> Generator<S> {
 
     /// A new value for a code, mostly allowed.
     fn new_value(&mut self, code: usize) -> Vec<u8> {
+        if self.random.percent(55) { self.allowed_value(code) } else { self.refused_value(code) }
+    }
+
+    pub(crate) fn allowed_value(&mut self, code: usize) -> Vec<u8> {
         let shortest = shortest_code(code);
-        let r = &mut self.random;
-        let n = r.pick(&[shortest, shortest, shortest + 1, 11, 12, 12, shortest - 1, 13, 0, 2]);
-        let mut new = r.digits(n);
-        if n > 0 && r.percent(10) {
-            let at = r.below(n);
-            new[at] = r.pick(&[0x2F, 0x3A, 0x00, 0xFF, b'A']);
+        let any = self.random.between(shortest, LONGEST_CODE);
+        let n = self.random.pick(&[shortest, shortest, shortest + 1, 11, 12, 12, any]);
+        self.random.digits(n)
+    }
+
+    /// Not of allowed length or, less often, not digits.
+    pub(crate) fn refused_value(&mut self, code: usize) -> Vec<u8> {
+        if self.random.percent(80) {
+            let n = self.random.pick(&[shortest_code(code) - 1, 13, 0, 2]);
+            return self.random.digits(n);
         }
-        new
+        let mut value = self.allowed_value(code);
+        let at = self.random.below(value.len());
+        value[at] = self.random.pick(&[0x2F, 0x3A, 0x00, 0xFF, b'A']);
+        value
     }
 
     pub(crate) fn any_code(&mut self) -> usize {
@@ -235,11 +249,15 @@ impl<S: Played> Generator<S> {
         self.send(0x00, 0x20, 0x00, code as u8, &[], le);
     }
 
+    /// Sometimes with a query of the same code after it.
     pub(crate) fn change(&mut self) {
         let code = self.any_code();
         let mut data = self.value(code, 75);
         data.extend(self.new_value(code));
         self.send(0x00, 0x24, 0x00, code as u8, &data, None);
+        if self.random.percent(20) {
+            self.ask_about(code);
+        }
     }
 
     pub(crate) fn unblock(&mut self, pin: usize) {
@@ -508,6 +526,16 @@ impl<S: Played> Generator<S> {
         };
         self.call(b'C', &apdu);
     }
+}
+
+fn apdu(header: [u8; 4], data: &[u8], le: Option<u8>) -> Vec<u8> {
+    let mut apdu = header.to_vec();
+    if !data.is_empty() {
+        apdu.push(data.len() as u8);
+        apdu.extend(data);
+    }
+    apdu.extend(le);
+    apdu
 }
 
 impl<S: Played> Iterator for Generator<S> {

@@ -109,8 +109,11 @@ impl Played for PlayedStandIn {
 
     fn scenario(generator: &mut Generator<Self>) {
         if generator.made >= generator.session.session_ends {
-            if generator.random.percent(20) {
-                generator.write_and_load();
+            match generator.random.below(20) {
+                0..=3 => generator.write_and_load(),
+                4 => generator.block_puk(),
+                5 => generator.change_and_load(),
+                _ => {}
             }
             generator.next_session();
             return;
@@ -125,6 +128,13 @@ impl Played for PlayedStandIn {
 impl Generator<PlayedStandIn> {
     fn near_its_end(&self) -> bool {
         self.session.session_ends < self.made + 10
+    }
+
+    fn block_puk(&mut self) {
+        self.session.spares_puk = false;
+        if self.session.card().is_good() {
+            self.lower_puk_and_ask(0);
+        }
     }
 
     /// A card that load refuses, or a session on a good one.
@@ -240,7 +250,7 @@ impl Generator<PlayedStandIn> {
     }
 
     fn step(&mut self) {
-        match self.random.below(106) {
+        match self.random.below(115) {
             0..=3 => self.malformed(),
             4 => self.line(b"P".to_vec()),
             5..=7 => self.noise(),
@@ -259,7 +269,7 @@ impl Generator<PlayedStandIn> {
                 self.unblock(pin);
             }
             39..=41 => self.block_and_unblock(),
-            42 | 43 => self.open_and_look(),
+            42 | 43 | 106..=114 => self.change_or_unblock(),
             44 => self.read_code_records(),
             45..=47 => self.environment(),
             48..=50 => self.choose_key(),
@@ -333,52 +343,6 @@ impl Generator<PlayedStandIn> {
         };
         let p2 = [0xA4, 0xB6, 0xB8][kind as usize - 1];
         self.send(0x00, 0x22, 0x41, p2, &data, None);
-    }
-
-    /// Opens a code, does what may close it, and asks for the mark.
-    fn open_and_look(&mut self) {
-        let code = self.random.below(3);
-        let pin = self.random.pick(&[PIN1, PIN2]);
-        self.verify(code, 100);
-        match self.random.below(6) {
-            0 => {
-                let n = self.random.between(shortest_code(code), LONGEST_CODE);
-                self.present_and_store(0x24, code, code, n);
-            }
-            1 => self.present_and_store(0x24, code, code, shortest_code(code) - 1),
-            2 => self.verify(code, 0),
-            3 => {
-                self.block(pin);
-                self.present_and_store(0x2C, PUK, pin, LONGEST_CODE);
-            }
-            4 => {
-                self.block(pin);
-                self.send(0x00, 0x2C, 0x03, pin as u8, &[], None);
-            }
-            _ => {}
-        }
-        match code {
-            PUK => {
-                self.block(pin);
-                self.send(0x00, 0x2C, 0x03, pin as u8, &[], None);
-            }
-            PIN1 => self.internal_authenticate(),
-            _ => self.sign_digest(),
-        }
-    }
-
-    /// CHANGE or RESET RETRY with the right code and a new value of so many digits.
-    fn present_and_store(&mut self, instruction: u8, presented: usize, code: usize, n: usize) {
-        let mut data = self.stored(presented);
-        data.extend(self.random.digits(n));
-        self.send(0x00, instruction, 0x00, code as u8, &data, None);
-    }
-
-    /// Wrong values until the code has no tries.
-    pub(crate) fn block(&mut self, pin: usize) {
-        for _ in 0..self.session.card().codes[pin].tries {
-            self.call(b'C', &[0x00, 0x20, 0x00, pin as u8, 0x01, 0x00]);
-        }
     }
 
     /// All of them, or those from a place on.
@@ -532,15 +496,16 @@ impl Generator<PlayedStandIn> {
 
     fn plain_command(&mut self) {
         let code = self.any_code();
-        let mut right = self.session.card().codes[code].value.get().to_vec();
-        right.insert(0, right.len() as u8);
+        let value = self.stored(code);
         let query = vec![0x00, 0x20, 0x00, code as u8];
         let query_with_le = [&query[..], &[0x00]].concat();
-        let verify = [&query[..], &right].concat();
+        let verify = [&query[..], &[value.len() as u8], &value].concat();
+        let change = [&[0x00, 0x24, 0x00, code as u8, 2 * value.len() as u8], &value[..], &value].concat();
         let commands = [
             query,
             query_with_le,
             verify,
+            change,
             vec![0x00, 0x20, 0x00, 0x01, 0x04, 0x39, 0x39, 0x39, 0x39],
             vec![0x00, 0xA4, 0x00, 0x0C],
             vec![0x00, 0xC0, 0x00, 0x00, 0x00],

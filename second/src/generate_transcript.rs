@@ -30,18 +30,6 @@ impl Generator<PlayedTranscript> {
         self.made >= self.session.last_tenth
     }
 
-    /// Wrong values of PUK down to its last try, in the last tenth until it is blocked, with a
-    /// query at each number of tries; then the right value.
-    fn lower_puk_and_ask(&mut self) {
-        let left = if self.in_last_tenth() { 0 } else { 1 };
-        self.ask_about(PUK);
-        for _ in left..self.session.card().codes[PUK].tries {
-            self.verify(PUK, 0);
-            self.ask_about(PUK);
-        }
-        self.verify(PUK, 100);
-    }
-
     fn read_anywhere(&mut self) {
         let le = self.maybe_le();
         let any = self.random.below(1600);
@@ -119,7 +107,7 @@ impl Played for PlayedTranscript {
     }
 
     fn scenario(generator: &mut Generator<Self>) {
-        match generator.random.below(102) {
+        match generator.random.below(109) {
             0..=2 => generator.malformed(),
             3..=4 => generator.line(b"P".to_vec()),
             5..=8 => generator.noise(),
@@ -127,7 +115,10 @@ impl Played for PlayedTranscript {
             19..=26 => generator.browse(),
             27..=39 => Self::read(generator),
             40..=43 => generator.get_responses(),
-            44 | 45 => generator.lower_puk_and_ask(),
+            44 | 45 => {
+                let left = if generator.in_last_tenth() { 0 } else { 1 };
+                generator.lower_puk_and_ask(left);
+            }
             46..=51 => {
                 let code = generator.any_code();
                 generator.verify(code, 70);
@@ -144,6 +135,7 @@ impl Played for PlayedTranscript {
             85..=91 => generator.sign(),
             92..=98 => generator.decipher(),
             99 | 100 => generator.browse_in_blocks(),
+            101..=107 => generator.change_or_unblock(),
             _ => {
                 let n = generator.random.below(300);
                 let result = generator.random.bytes(n);

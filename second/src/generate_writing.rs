@@ -51,20 +51,37 @@ impl Generator<PlayedStandIn> {
             self.change_codes();
             self.leave_in_session();
         }
-        self.make_room();
-        self.write();
         let before = self.session.stand_in.card().clone();
-        let mut image = [0; LONGEST_IMAGE];
-        let Ok(length) = write_image(&before, &mut image) else {
+        self.load_what_is_written();
+        if !before.is_good() {
             return;
-        };
-        self.call(b'L', &image[..length]);
+        }
         if self.random.percent(40) {
             self.write();
         }
         self.look_for_session(&before);
         self.look_at_card(&before);
         self.write();
+    }
+
+    fn load_what_is_written(&mut self) {
+        self.make_room();
+        self.write();
+        let mut image = [0; LONGEST_IMAGE];
+        if let Ok(length) = write_image(self.session.stand_in.card(), &mut image) {
+            self.call(b'L', &image[..length]);
+        }
+    }
+
+    /// A code that CHANGE opened is asked about when the card is written and loaded again.
+    pub(crate) fn change_and_load(&mut self) {
+        if self.session.stand_in.card().is_good() {
+            let code = self.random.below(3);
+            self.make_room();
+            self.change_rightly(code);
+            self.load_what_is_written();
+            self.ask_alone(code);
+        }
     }
 
     /// New values and fewer tries, or neither.

@@ -3,8 +3,10 @@
 pub mod answers;
 pub mod apdu;
 pub mod card;
+pub mod code_commands;
 pub mod comparison;
 pub mod generate;
+pub mod generate_changing;
 pub mod generate_reading;
 pub mod generate_stand_in;
 pub mod generate_transcript;
@@ -19,6 +21,7 @@ pub mod padding;
 pub mod program;
 pub mod request;
 pub mod sample;
+pub mod sequences;
 pub mod session;
 pub mod stand_in;
 pub mod state;

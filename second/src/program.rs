@@ -2,6 +2,7 @@
 
 use crate::lines::{run, LineProgram};
 use crate::sample;
+use std::collections::BTreeSet;
 use std::fs::{self, File};
 use std::io::{self, Read, Write};
 use std::os::fd::AsFd;
@@ -61,6 +62,32 @@ pub fn run_generator<L: Iterator<Item = Vec<u8>>>(name: &str, lines: impl Fn(u64
         out.write_all(&line)
     });
     report(name, written.and_then(|()| out.flush()))
+}
+
+/// A line and its answer.
+pub type Answered = (Vec<u8>, String);
+
+/// NAME [INPUT OUTPUT]: what the lines of INPUT reach with the answers of OUTPUT, one a line. Without
+/// arguments what is wanted of them.
+pub fn run_reached(name: &str, wanted: fn() -> Vec<String>, reached: fn(&[Answered]) -> BTreeSet<String>) -> ExitCode {
+    let arguments: Vec<String> = env::args().skip(1).collect();
+    let list = match &arguments[..] {
+        [] => Ok(wanted()),
+        [input, output] => answered(input, output).map(|answered| reached(&answered).into_iter().collect()),
+        _ => {
+            eprintln!("usage: {name} [INPUT OUTPUT]");
+            return ExitCode::from(2);
+        }
+    };
+    let printed = list.and_then(|list| io::stdout().lock().write_all((list.join("\n") + "\n").as_bytes()));
+    report(name, printed)
+}
+
+fn answered(input: &str, output: &str) -> io::Result<Vec<Answered>> {
+    let (input, output) = (read(input)?, read(output)?);
+    let lines = input.split(|byte| *byte == b'\n').map(<[u8]>::to_vec);
+    let answers = output.split(|byte| *byte == b'\n').map(|answer| String::from_utf8_lossy(answer).into_owned());
+    Ok(lines.zip(answers).collect())
 }
 
 fn seed_and_number(name: &str) -> (u64, usize) {

@@ -1,5 +1,8 @@
 //! Document 01's cases P1 to P10 and its printed transcript; document 02's wishes.
 
+mod job_lines;
+
+use job_lines::{result_line, sign_line};
 use second::generate::Random;
 use second::lines::{run, LineProgram};
 use second::transcript::Transcript;
@@ -14,10 +17,6 @@ fn check(lines: &[(&str, &str)]) -> Transcript {
     session
 }
 
-fn sha1() -> String {
-    format!("C002A9E9A233021300906052B0E03021A05000414{}", "AB".repeat(20))
-}
-
 #[test]
 fn p1_three_wrong_pin1() {
     let wrong = "C002000010439393939";
@@ -26,8 +25,7 @@ fn p1_three_wrong_pin1() {
 
 #[test]
 fn p2_sign_twice() {
-    let result = format!("D{}", "5A".repeat(256));
-    let sign = sha1();
+    let (sign, result) = (sign_line(), result_line());
     check(&[("C00200002053132333435", "R9000"), (&sign, "J2 0100"), (&result, "R6100"), (&sign, "R6982")]);
 }
 
@@ -256,7 +254,7 @@ fn a_reader_in_blocks_gets_the_certificate_and_stops() {
 /// As every other call, it drops the held answer and the chain, and it leaves the current file.
 #[test]
 fn a_read_over_the_end_drops_what_is_held() {
-    let result = format!("D{}", "5A".repeat(256));
+    let result = result_line();
     let first = format!("C102A8086FF{}", "00".repeat(255));
     let short = ("C00B00006FF", "R5C6282");
     check(&[

@@ -12,7 +12,7 @@ use second::transcript::Transcript;
 use second::{images, load, pad_lines};
 use std::collections::BTreeSet;
 
-const SEEDS: u64 = 4;
+const SEEDS: u64 = 8;
 const LINES: usize = 4000;
 
 struct Step {

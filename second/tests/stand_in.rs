@@ -1,5 +1,10 @@
 //! The stand-in program's own lines, and that lines are answered at once.
 
+mod cards;
+mod job_lines;
+
+use cards::own_image;
+use job_lines::{digest, result_line, sign_line};
 use second::lines::{run, LineProgram, BLOCK};
 use second::stand_in::StandIn;
 use second::transcript::Transcript;
@@ -22,24 +27,6 @@ fn check(lines: &[(&str, &str)]) -> StandIn {
 
 fn load_line(image: &[u8]) -> String {
     format!("L{}", hex::encode(image))
-}
-
-/// PIN1 9999, PIN2 88888, PUK 77777777; all keys, 0200h and 1200h active; record n has n bytes.
-fn own_image() -> Vec<u8> {
-    let mut image = vec![3];
-    for digits in ["77777777", "9999", "88888"] {
-        image.push(digits.len() as u8);
-        image.extend(digits.bytes());
-        image.push(2);
-    }
-    image.extend([4, 0x01, 0x00, 0x02, 0x00, 0x11, 0x00, 0x12, 0x00, 21]);
-    let mut references = [0x55; 21];
-    references[9..11].copy_from_slice(&[0x12, 0x00]);
-    references[19..21].copy_from_slice(&[0x02, 0x00]);
-    image.extend(references);
-    image.push(16);
-    (1..=16).for_each(|n| image.extend(vec![n; n as usize + 1]));
-    image
 }
 
 fn bytes_line(letter: char, length: usize) -> String {
@@ -92,15 +79,15 @@ fn load_ends_a_waiting_job() {
 
 #[test]
 fn a_job_shows_its_block() {
-    let digest = format!("3021300906052B0E03021A05000414{}", "AB".repeat(20));
-    let sign = format!("C002A9E9A23{digest}");
+    let sign = sign_line();
+    let signature = padded_line("J2 0100", &digest());
     let first = format!("C102A8086FF00{}", "77".repeat(254));
     let decipher = format!("J3 1100 {}", "77".repeat(256));
     let authenticate = padded_line("J1 1100", "A1B2C3");
     let longest = format!("C00880000F5{}", "C4".repeat(245));
-    let result = format!("D{}", "5A".repeat(256));
+    let result = result_line();
     check(&[
-        (VERIFY_PIN1, "R9000"), (VERIFY_PIN2, "R9000"), (&sign, &padded_line("J2 0100", &digest)), (&result, "R6100"), (&sign, "R6982"),
+        (VERIFY_PIN1, "R9000"), (VERIFY_PIN2, "R9000"), (&sign, &signature), (&result, "R6100"), (&sign, "R6982"),
         ("C0088000003A1B2C3", &authenticate), ("D", "R6400"), (&longest, &padded_line("J1 1100", &"C4".repeat(245))), ("D", "R6400"),
         ("C0022F306", "R9000"), (&first, "R9000"), ("C002A8086027777", &decipher), ("D", "R6400"),
     ]);
@@ -160,7 +147,7 @@ fn buffers_from_258_bytes_are_taken() {
 
 #[test]
 fn the_edge_drops_nothing() {
-    let result = format!("D{}", "5A".repeat(256));
+    let result = result_line();
     let rest = format!("R{}9000", "5A".repeat(256));
     let block = padded_line("J1 1100", "00");
     check(&[

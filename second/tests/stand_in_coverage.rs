@@ -2,9 +2,11 @@
 //! card, every length that matters, queries of each code in each of its states, reads of both
 //! certificates over their ends, and refusals in the midst of everything.
 
+mod all_seen;
 mod queries;
 mod reads;
 
+use all_seen::check_all;
 use queries::{queries_of_each_code, query, STATES};
 use reads::{dropped_at_end, ends_of_both_files, long_certificates, read, readings, readings_of_both_files, Read, Reading};
 use second::answers::{reached, wanted};
@@ -14,7 +16,7 @@ use second::lines::{LineProgram, BLOCK};
 use second::stand_in::StandIn;
 use second::state::{KeyClass, PUK};
 use second::{load, sample, CardState};
-use std::collections::{BTreeMap, BTreeSet};
+use std::collections::BTreeSet;
 
 const SEEDS: u64 = 8;
 const LINES: usize = 10_000;
@@ -39,42 +41,31 @@ fn play(seed: u64) -> Vec<Step> {
     Generator::for_stand_in(seed).take(LINES).map(step).collect()
 }
 
-/// How often each thing happens that `seen` finds in a step.
-fn count<T: Ord>(seen: impl Fn(&Step) -> Vec<T>) -> BTreeMap<T, usize> {
-    let mut counts = BTreeMap::new();
-    for seed in 1..=SEEDS {
-        for thing in play(seed).iter().flat_map(&seen) {
-            *counts.entry(thing).or_default() += 1;
-        }
-    }
-    counts
-}
-
-fn check_all<T: Ord + std::fmt::Debug>(counts: BTreeMap<T, usize>, expected: impl IntoIterator<Item = T>) {
-    let missing: Vec<T> = expected.into_iter().filter(|thing| !counts.contains_key(thing)).collect();
-    assert!(missing.is_empty(), "missing {missing:?}\nreached {counts:?}");
+/// What `seen` finds in the steps.
+fn collect<T: Ord>(seen: impl Fn(&Step) -> Vec<T>) -> BTreeSet<T> {
+    (1..=SEEDS).flat_map(|seed| play(seed).iter().flat_map(&seen).collect::<Vec<T>>()).collect()
 }
 
 #[test]
 fn every_answer_occurs() {
-    let counts = count(|step| reached(&step.line, &step.answer));
-    let strange: Vec<&String> = counts.keys().filter(|class| !wanted().contains(class)).collect();
+    let seen = collect(|step| reached(&step.line, &step.answer));
+    let strange: Vec<&String> = seen.iter().filter(|class| !wanted().contains(class)).collect();
     assert!(strange.is_empty(), "{strange:?}");
-    check_all(counts, wanted());
+    check_all(seen, wanted());
 }
 
 #[test]
 fn each_code_is_asked_about_in_each_state_and_at_the_edge() {
     let asked = |step: &Step| query(&step.line, &step.answer).into_iter().collect();
-    check_all(count(asked), queries_of_each_code(&[&STATES[..], &["H1", "H2", "H3", "H4"]].concat()));
+    check_all(collect(asked), queries_of_each_code(&[&STATES[..], &["H1", "H2", "H3", "H4"]].concat()));
 }
 
 #[test]
 fn both_certificates_are_read_at_their_ends() {
-    let ends = count(|step| step.read.as_ref().map_or(vec![], Read::ends));
-    assert_eq!(ends.into_keys().collect::<BTreeSet<String>>(), ends_of_both_files());
-    let dropped = count(|step| dropped_at_end(&step.line, &step.answer, &step.before, &step.after));
-    assert_eq!(dropped.into_keys().collect::<Vec<&str>>(), ["chain", "held"]);
+    let ends = collect(|step| step.read.as_ref().map_or(vec![], Read::ends));
+    assert_eq!(ends, ends_of_both_files());
+    let dropped = collect(|step| dropped_at_end(&step.line, &step.answer, &step.before, &step.after));
+    assert_eq!(dropped, BTreeSet::from(["chain", "held"]));
 }
 
 #[test]
@@ -109,7 +100,7 @@ fn loaded(step: &Step) -> Option<&CardState> {
 #[test]
 fn cards_have_every_key_and_each_active() {
     let keys = |card: &CardState| (card.active_key(KeyClass::Signature), card.active_key(KeyClass::Authentication), card.present_keys().to_vec());
-    let counts = count(|step| loaded(step).map(keys).into_iter().collect());
+    let seen = collect(|step| loaded(step).map(keys).into_iter().collect());
     let both = |keys: [u16; 2]| [vec![keys[0]], vec![keys[1]], keys.to_vec()];
     let mut expected = BTreeSet::new();
     for signature in both([0x0100, 0x0200]) {
@@ -120,23 +111,23 @@ fn cards_have_every_key_and_each_active() {
         }
     }
     assert_eq!(expected.len(), 16);
-    check_all(counts, expected);
+    check_all(seen, expected);
 }
 
 #[test]
 fn cards_have_every_length_and_number_of_tries() {
     let tries = |card: &CardState| (0..3).map(|code| (code, card.codes[code].tries)).collect::<Vec<_>>();
-    check_all(count(|step| loaded(step).map_or(vec![], tries)), (0..3).flat_map(|code| (0..=3).map(move |tries| (code, tries))));
+    check_all(collect(|step| loaded(step).map_or(vec![], tries)), (0..3).flat_map(|code| (0..=3).map(move |tries| (code, tries))));
 
     let codes = |card: &CardState| (0..3).map(|code| (code, card.codes[code].value.length)).collect::<Vec<_>>();
     let lengths = [8, 4, 5].into_iter().enumerate().flat_map(|(code, shortest)| (shortest..=12).map(move |length| (code, length)));
-    check_all(count(|step| loaded(step).map_or(vec![], codes)), lengths);
+    check_all(collect(|step| loaded(step).map_or(vec![], codes)), lengths);
 
     let records = |card: &CardState| card.records.iter().map(|record| record.length).collect::<Vec<_>>();
-    check_all(count(|step| loaded(step).map_or(vec![], records)), 1..=64);
+    check_all(collect(|step| loaded(step).map_or(vec![], records)), 1..=64);
 
     let image = |step: &Step| loaded(step).map(|_| step.line.len() / 2).into_iter().collect();
-    check_all(count(image), [84, 1115]);
+    check_all(collect(image), [84, 1115]);
 }
 
 /// The lengths of records that are read whole.
@@ -146,7 +137,7 @@ fn records_of_every_length_are_read() {
         let whole = step.line.starts_with(b"C00B2") && step.answer.ends_with("9000");
         if whole { vec![(step.answer.len() - 5) / 2] } else { vec![] }
     };
-    check_all(count(read), 1..=64);
+    check_all(collect(read), 1..=64);
 }
 
 #[test]
@@ -174,7 +165,7 @@ fn certificates_and_buffers_have_every_length_that_matters() {
     let lengths = |letter: &'static str, list: &'static [usize]| list.iter().map(move |length| (letter.to_string(), *length));
     let certificates = &[0, 1, 2, 200, 254, 255, 256, 257, 400, 510, 1535, 1536, 1537, 2047];
     let buffers = &[0, 2, 255, 256, 257, 258, 259, 260, 1114, 1115, 1116, 4095, 4096];
-    check_all(count(lent), lengths("A", certificates).chain(lengths("S", certificates)).chain(lengths("B", buffers)));
+    check_all(collect(lent), lengths("A", certificates).chain(lengths("S", certificates)).chain(lengths("B", buffers)));
 }
 
 #[test]
@@ -191,7 +182,7 @@ fn lines_have_every_length_that_matters() {
     }
     expected.extend(['B', 'P', 'I', 'X'].map(|letter| (letter, 4098, true)));
     expected.extend([('C', 1025, false), ('D', 1025, false), (' ', 0, true), ('+', 0, true)]);
-    check_all(count(long), expected);
+    check_all(collect(long), expected);
 }
 
 #[test]
@@ -212,7 +203,7 @@ fn refusals_come_in_the_midst_of_everything() {
         expected.extend(["H2", "H3", "H5", "A", "S", "B", "L", "P", "I0", "?"].map(|answer| (state, answer.to_string())));
     }
     expected.retain(|(state, answer)| (*state, answer.as_str()) != ("job", "H5"));
-    check_all(count(met), expected);
+    check_all(collect(met), expected);
 }
 
 #[test]

@@ -1,7 +1,9 @@
 //! The writer of document 02's wish 3: its laws, its edge, the line I and the programs of images.
 
+mod job_lines;
 mod states;
 
+use job_lines::result_line;
 use second::comparison::{compare, Answer};
 use second::generate::{Generator, Random};
 use second::images::{self, Parts, VERY_LONG};
@@ -199,14 +201,14 @@ fn the_line_shows_codes_and_tries_and_no_session() {
         ("I", &sample), ("I", &sample), ("C002000010439393939", "R63C2"), ("I", &fewer), ("P", "P"), ("I", &fewer),
         ("C002000010431323334", "R9000"), ("I", &sample), ("C00200001", "R9000"), ("C0022F306", "R9000"), ("C00A4010C02EEEE", "R9000"),
         ("I", &sample), ("C00A4020C025044", "R9000"), ("C00B20104", "R6101"), ("I", &sample), ("C00C0000000", "R209000"),
-        ("C0024000109313233343939393939", "R9000"), ("I", &changed), ("C00200001", "R63C3"),
+        ("C0024000109313233343939393939", "R9000"), ("I", &changed), ("C00200001", "R9000"), ("P", "P"), ("I", &changed), ("C00200001", "R63C3"),
     ]);
 }
 
 #[test]
 fn the_line_leaves_job_chain_and_held_answer() {
     let sample = format!("I{}", sample_hex());
-    let result = format!("D{}", "5A".repeat(256));
+    let result = result_line();
     let rest = format!("R{}9000", "5A".repeat(256));
     let block = format!("J1 1100 0001{}0000", "FF".repeat(252));
     let first = format!("C102A8086FF{}", "00".repeat(255));

@@ -1,6 +1,9 @@
 //! Over a few fixed seeds the generator of stand-in lines has images written in every situation and
 //! with every buffer that matters, loads them again, and looks at what is kept and what is gone.
 
+mod all_seen;
+
+use all_seen::check_all;
 use second::generate::Generator;
 use second::lines::LineProgram;
 use second::stand_in::StandIn;
@@ -56,11 +59,6 @@ fn play(seed: u64) -> Vec<Step> {
 
 fn collect<T: Ord>(seen: impl Fn(&[Step]) -> Vec<T>) -> BTreeSet<T> {
     (1..=SEEDS).flat_map(|seed| seen(&play(seed))).collect()
-}
-
-fn check_all<T: Ord + std::fmt::Debug>(seen: BTreeSet<T>, expected: impl IntoIterator<Item = T>) {
-    let missing: Vec<T> = expected.into_iter().filter(|thing| !seen.contains(thing)).collect();
-    assert!(missing.is_empty(), "missing {missing:?}\nseen {seen:?}");
 }
 
 type Condition = fn(&Step) -> bool;

@@ -12,7 +12,7 @@ use Rattle.rules.specs.Apdu.{parse}
 use Rattle.rules.specs.Answers.{moreBytes, give}
 use Rattle.rules.specs.FileCommands.{select, readRecord, readStatus, readBinary, getResponse}
 use Rattle.rules.specs.CodeCommands.{verdict, judged, queried, verify, replaced, change}
-use Rattle.rules.specs.CodeCommands.{unblockByVerifiedPuk, unblockByPresentedPuk, resetRetry}
+use Rattle.rules.specs.CodeCommands.{unblocked, unblockByVerifiedPuk, unblockByPresentedPuk, resetRetry}
 use Rattle.rules.specs.Digests.{prefixed, sha2, isDigest}
 use Rattle.rules.specs.KeyCommands.{setEnvironment, kindChosen, chooseKey, internalAuthenticate, sign, decipher}
 use Rattle.rules.specs.Judgement.{instruction, parameters, lengths, ownRules, knownInstruction, namedIn, judgeNamed}
@@ -25,11 +25,12 @@ use Rattle.rules.specs.Writer.{codeImage, codesImage, keysAmong, keyBytes, keys
 use Rattle.rules.specs.Writer.{recordsImage, personalImage, imageOf, write}
 use Rattle.rules.specs.Counting.{step, returnedStatus, returnedKind, formSends, sentBy, readOff, wrongStatus}
 use Rattle.rules.specs.Counting.{okStatus, queries, verifies, changes, presentsPuk, unblocks, presents}
+use Rattle.rules.specs.CodeSheet.{resetDone, opens, closes}
 use Rattle.rules.specs.Reading.{returnedData, wholeBlock, readBlocks, lastWord}
 use Rattle.rules.specs.Sample.{sampleCard, sampleImage}
 use Rattle.rules.specs.Cases.{onCard}
 use Rattle.cases.specs.SecondCard.{secondCard, secondImage}
 
 unfoldable pub rules : Unit {0}
-unfolding blank filled goodRoom padded cannotPad pad beforeZero enciphered strip least allowed ofClass present activeKey keyFor newSession filesIn certificateOf pukRecord pinRecord counterRecord personalRecord recordCount recordOf goodCode goodCodes goodReferences goodRecords goodProfile goodSelection goodEnvironment goodJob goodSession good parse moreBytes give select readRecord readStatus readBinary getResponse verdict judged queried verify replaced change unblockByVerifiedPuk unblockByPresentedPuk resetRetry prefixed sha2 isDigest setEnvironment kindChosen chooseKey internalAuthenticate sign decipher instruction parameters lengths ownRules knownInstruction namedIn judgeNamed judgeHeader judgeForm judge deliver responseIn written command delivery powerReset byteIf bytesIf readCode codeSection readKey readKeys keySection referenceSection readPersonal readRecords personalSection end readCard zeroCard loaded load codeImage codesImage keysAmong keyBytes keysImage referencesImage recordImage recordsImage personalImage imageOf write step returnedStatus returnedKind formSends sentBy readOff wrongStatus okStatus queries verifies changes presentsPuk unblocks presents returnedData wholeBlock readBlocks lastWord sampleCard sampleImage onCard secondCard secondImage
+unfolding blank filled goodRoom padded cannotPad pad beforeZero enciphered strip least allowed ofClass present activeKey keyFor newSession filesIn certificateOf pukRecord pinRecord counterRecord personalRecord recordCount recordOf goodCode goodCodes goodReferences goodRecords goodProfile goodSelection goodEnvironment goodJob goodSession good parse moreBytes give select readRecord readStatus readBinary getResponse verdict judged queried verify replaced change unblocked unblockByVerifiedPuk unblockByPresentedPuk resetRetry prefixed sha2 isDigest setEnvironment kindChosen chooseKey internalAuthenticate sign decipher instruction parameters lengths ownRules knownInstruction namedIn judgeNamed judgeHeader judgeForm judge deliver responseIn written command delivery powerReset byteIf bytesIf readCode codeSection readKey readKeys keySection referenceSection readPersonal readRecords personalSection end readCard zeroCard loaded load codeImage codesImage keysAmong keyBytes keysImage referencesImage recordImage recordsImage personalImage imageOf write step returnedStatus returnedKind formSends sentBy readOff wrongStatus okStatus queries verifies changes presentsPuk unblocks presents resetDone opens closes returnedData wholeBlock readBlocks lastWord sampleCard sampleImage onCard secondCard secondImage
 rules = tt

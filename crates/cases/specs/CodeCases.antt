@@ -7,7 +7,7 @@ use Rattle.octets.specs.Octets.{Bytes}
 use Rattle.rules.specs.Codes.{PUK, PIN1, PIN2}
 use Rattle.rules.specs.Counting.{Call}
 use Rattle.rules.specs.Sample.{sampleCard, puk, pin1, pin2}
-use Rattle.rules.specs.Cases.{code, verifyOf, sw, fresh}
+use Rattle.rules.specs.Cases.{code, verifyOf, sw}
 use Rattle.cases.specs.SecondCard.{secondCard, secondPuk, secondPin1, secondPin2}
 use Rattle.cases.specs.Turns.{Run, _⇒_, from, Shown, tries, marks, sending, fives, nines, sampleTries}
 use Rattle.cases.specs.Turns.{sampleMarks}
@@ -96,7 +96,7 @@ codes =
     }
     -- the second card's PIN2 has one try
     ∷ from secondCard (verifyOf PIN2 (nines 12) ⇒ sw 0x63C0 ∷ verifyOf PIN2 secondPin2 ⇒ sw 0x6983 ∷ []) (tries 3 2 0)
-    -- 24: new stored, tries 3, mark off; the new value is right afterwards and the old one wrong
+    -- 24: new stored, tries 3, mark on (02, wish 4); the new value is right afterwards and the old one wrong
     ∷ record {
       card = sampleTries 3 2 3;
       turns =
@@ -106,8 +106,12 @@ codes =
           ∷ [];
       codes = marks false true false;
     }
-    ∷ from (sampleTries 1 2 1) (changeOf PIN1 pin1 (fives 4) ⇒ sw 0x9000 ∷ []) (tries 1 3 1)
-    ∷ from (sampleMarks true true true) (changeOf PIN1 pin1 (fives 4) ⇒ sw 0x9000 ∷ []) (marks true false true)
+    ∷ record {
+      card = sampleTries 1 2 1;
+      turns = changeOf PIN1 pin1 (fives 4) ⇒ sw 0x9000 ∷ [];
+      codes = code PUK 1 false ∷ code PIN1 3 true ∷ code PIN2 1 false ∷ [];
+    }
+    ∷ from (sampleMarks true true true) (changeOf PIN1 pin1 (fives 4) ⇒ sw 0x9000 ∷ []) (marks true true true)
     ∷ record {
       card = sampleMarks true true true;
       turns =
@@ -116,9 +120,9 @@ codes =
           ∷ [];
       codes = marks true true true;
     }
-    ∷ from (sampleMarks true true true) (changeOf PIN2 pin2 (fives 5) ⇒ sw 0x9000 ∷ []) (marks true true false)
+    ∷ from (sampleMarks true true true) (changeOf PIN2 pin2 (fives 5) ⇒ sw 0x9000 ∷ []) (marks true true true)
     -- 24 to the same value: stored
-    ∷ from sampleCard (changeOf PIN1 pin1 pin1 ⇒ sw 0x9000 ∷ []) fresh
+    ∷ from sampleCard (changeOf PIN1 pin1 pin1 ⇒ sw 0x9000 ∷ []) (marks false true false)
     -- 24: old then new, the old as long as the stored code, here of 12 and of 4
     ∷ record {
       card = secondCard;
@@ -195,7 +199,7 @@ codes =
           ∷ changeOf PIN1 pin1 (0x39 ∷ 0x39 ∷ 0x39 ∷ 0x3A ∷ []) ⇒ sw 0x6A80
           ∷ changeOf PIN1 pin1 (0x30 ∷ 0x39 ∷ 0x39 ∷ 0x30 ∷ []) ⇒ sw 0x9000
           ∷ [];
-      codes = fresh;
+      codes = marks false true false;
     }
     -- 24 with 6A80: tries and marks as they were, and the value too
     ∷ record {

@@ -8,11 +8,11 @@ use Rattle.octets.specs.Octets.{Bytes}
 use Rattle.rules.specs.Numbers.{edge, responded, handedOut, wasReset}
 use Rattle.rules.specs.Codes.{PUK, PIN1, PIN2}
 use Rattle.rules.specs.Counting.{Call, PowerReset, Exchange, wrongAnswers, restorations, unblockings}
-use Rattle.rules.specs.Counting.{pin2Presentations, signatures, triesAtLoad}
+use Rattle.rules.specs.Counting.{pin2Presentations, pin2Changes, signatures, triesAtLoad}
 use Rattle.rules.specs.Sample.{sampleImage}
 use Rattle.rules.specs.Cases.{deliverTo, verifyOf, signSha1, send}
 use Rattle.cases.specs.SecondCard.{secondImage}
-use Rattle.cases.specs.Turns.{bare, sending, fives}
+use Rattle.cases.specs.Turns.{bare, withLe, sending, sendingWithLe, fives}
 
 -- A call that was answered by a status word alone; that handed out a job; that the edge refused, with what stood in its
 -- buffer.
@@ -26,7 +26,7 @@ abbrev pub refusedWith : Call → Bytes → Exchange
 refusedWith x d = record { call = x; returned = edge 2; buffer = d }
 
 -- The counts: wrong answers and restorations of PUK, PIN1 and PIN2, unblockings of PIN1 and PIN2, right presentations
--- of PIN2 by VERIFY, signatures.
+-- of PIN2 by VERIFY, successful CHANGEs of PIN2, signatures.
 abbrev pub counts : List Exchange → List ℕ
 counts t =
     wrongAnswers PUK t
@@ -38,6 +38,7 @@ counts t =
     ∷ unblockings PIN1 t
     ∷ unblockings PIN2 t
     ∷ pin2Presentations t
+    ∷ pin2Changes t
     ∷ signatures t
     ∷ []
 
@@ -69,12 +70,12 @@ tallies =
           ∷ answered (verifying PIN2) 0x63 0xCF
           ∷ answered (sending 0x20 0x00 PIN2 (fives 1)) 0x63 0xC1
           ∷ [];
-      are = 1 ∷ 1 ∷ 2 ∷ 0 ∷ 0 ∷ 0 ∷ 0 ∷ 0 ∷ 0 ∷ 0 ∷ [];
+      are = 1 ∷ 1 ∷ 2 ∷ 0 ∷ 0 ∷ 0 ∷ 0 ∷ 0 ∷ 0 ∷ 0 ∷ 0 ∷ [];
     }
     -- or to a 2C with P1 00, for PUK
     ∷ record {
       exchanges = answered (presenting PIN1) 0x63 0xC2 ∷ answered (presenting PIN2) 0x63 0xC1 ∷ [];
-      are = 2 ∷ 0 ∷ 0 ∷ 0 ∷ 0 ∷ 0 ∷ 0 ∷ 0 ∷ 0 ∷ 0 ∷ [];
+      are = 2 ∷ 0 ∷ 0 ∷ 0 ∷ 0 ∷ 0 ∷ 0 ∷ 0 ∷ 0 ∷ 0 ∷ 0 ∷ [];
     }
     -- 6983, 6A80, 63BF and 63D0 are none
     ∷ record {
@@ -84,9 +85,9 @@ tallies =
           ∷ answered (verifying PIN1) 0x63 0xBF
           ∷ answered (verifying PIN1) 0x63 0xD0
           ∷ [];
-      are = replicate 10 0;
+      are = replicate 11 0;
     }
-    -- a restoration is 9000 to them; of PIN2 by VERIFY it is a right presentation, by CHANGE not
+    -- a restoration is 9000 to them; of PIN2 by VERIFY it is a right presentation, by CHANGE a successful CHANGE (02, wish 4)
     ∷ record {
       exchanges =
           answered (verifying PUK) 0x90 0x00
@@ -94,7 +95,36 @@ tallies =
           ∷ answered (verifying PIN2) 0x90 0x00
           ∷ answered (changing PIN2) 0x90 0x00
           ∷ [];
-      are = 0 ∷ 0 ∷ 0 ∷ 1 ∷ 1 ∷ 2 ∷ 0 ∷ 0 ∷ 1 ∷ 0 ∷ [];
+      are = 0 ∷ 0 ∷ 0 ∷ 1 ∷ 1 ∷ 2 ∷ 0 ∷ 0 ∷ 1 ∷ 1 ∷ 0 ∷ [];
+    }
+    -- a CHANGE of PIN2 is counted whatever its data; not one that was refused, nor one of PIN1 or PUK, nor a 2C for PIN2
+    ∷ record {
+      exchanges =
+          answered (sending 0x24 0x00 PIN2 (fives 10)) 0x90 0x00
+          ∷ answered (sending 0x24 0x00 PIN2 (fives 24)) 0x90 0x00
+          ∷ answered (changing PIN2) 0x63 0xC2
+          ∷ answered (changing PIN2) 0x6A 0x80
+          ∷ answered (changing PIN2) 0x69 0x83
+          ∷ answered (changing PUK) 0x90 0x00
+          ∷ answered (changing PIN1) 0x90 0x00
+          ∷ answered (unblocking PIN2) 0x90 0x00
+          ∷ refusedWith (changing PIN2) (0x90 ∷ 0x00 ∷ [])
+          ∷ answered (deliverTo (0x00 ∷ 0x24 ∷ 0x00 ∷ PIN2 ∷ 0x0A ∷ fives 10)) 0x90 0x00
+          ∷ [];
+      are = 0 ∷ 0 ∷ 1 ∷ 1 ∷ 1 ∷ 2 ∷ 0 ∷ 1 ∷ 0 ∷ 2 ∷ 0 ∷ [];
+    }
+    -- with Le as without
+    ∷ record {
+      exchanges =
+          answered (sendingWithLe 0x20 0x00 PIN2 (fives 5) 0x00) 0x90 0x00
+          ∷ answered (sendingWithLe 0x24 0x00 PIN2 (fives 10) 0x02) 0x90 0x00
+          ∷ answered (withLe 0x2C 0x03 PIN1 0x00) 0x90 0x00
+          ∷ answered (sendingWithLe 0x2C 0x00 PIN2 (fives 13) 0xFF) 0x90 0x00
+          ∷ answered (sendingWithLe 0x20 0x00 PIN1 (fives 4) 0x00) 0x63 0xC1
+          ∷ answered (sendingWithLe 0x24 0x00 PUK (fives 16) 0x00) 0x63 0xC0
+          ∷ answered (sendingWithLe 0x2C 0x00 PIN1 (fives 12) 0x00) 0x63 0xC2
+          ∷ [];
+      are = 2 ∷ 1 ∷ 0 ∷ 1 ∷ 0 ∷ 2 ∷ 1 ∷ 1 ∷ 1 ∷ 1 ∷ 0 ∷ [];
     }
     -- an unblocking is 9000 to a 2C, P1 00 or 03, for the PIN P2 names; with P1 00 it restores PUK too
     ∷ record {
@@ -103,7 +133,7 @@ tallies =
           ∷ answered (unblocking PIN2) 0x90 0x00
           ∷ answered (unblocking PIN1) 0x69 0x82
           ∷ [];
-      are = 0 ∷ 0 ∷ 0 ∷ 1 ∷ 0 ∷ 0 ∷ 1 ∷ 1 ∷ 0 ∷ 0 ∷ [];
+      are = 0 ∷ 0 ∷ 0 ∷ 1 ∷ 0 ∷ 0 ∷ 1 ∷ 1 ∷ 0 ∷ 0 ∷ 0 ∷ [];
     }
     -- a signature is a job of kind 2 that a command returned; jobs 1 and 3, and a delivery, are none
     ∷ record {
@@ -115,7 +145,7 @@ tallies =
           ∷ handed (deliverTo []) 2
           ∷ answered signSha1 0x69 0x82
           ∷ [];
-      are = 0 ∷ 0 ∷ 0 ∷ 0 ∷ 0 ∷ 0 ∷ 0 ∷ 0 ∷ 0 ∷ 2 ∷ [];
+      are = 0 ∷ 0 ∷ 0 ∷ 0 ∷ 0 ∷ 0 ∷ 0 ∷ 0 ∷ 0 ∷ 0 ∷ 2 ∷ [];
     }
     -- nothing else counts: a VERIFY without data; 9000 to other commands, to an empty one, and to a delivery of the
     -- bytes of a VERIFY; a reset
@@ -129,13 +159,13 @@ tallies =
           ∷ answered (send []) 0x90 0x00
           ∷ record { call = PowerReset; returned = wasReset; buffer = [] }
           ∷ [];
-      are = replicate 10 0;
+      are = replicate 11 0;
     }
     -- and no call the edge refuses, whatever stands in its buffer
     ∷ record {
       exchanges =
           refusedWith (verifying PIN2) (0x90 ∷ 0x00 ∷ []) ∷ refusedWith (changing PIN1) (0x63 ∷ 0xC2 ∷ []) ∷ [];
-      are = replicate 10 0;
+      are = replicate 11 0;
     }
     ∷ []
 

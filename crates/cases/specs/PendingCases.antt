@@ -6,7 +6,7 @@ use mathlib.Core.List.{List, [], _∷_, _++_, map}
 use lib.ListN.{length, replicate}
 use Rattle.octets.specs.Octets.{Bytes}
 use Rattle.rules.specs.declared.Card.{Card}
-use Rattle.rules.specs.Codes.{PIN1}
+use Rattle.rules.specs.Codes.{PUK, PIN1, PIN2}
 use Rattle.rules.specs.Session.{withHeld}
 use Rattle.rules.specs.Counting.{Call, Command, PowerReset, next}
 use Rattle.rules.specs.Sample.{sampleCard, puk, pin1, pin2}
@@ -16,6 +16,7 @@ use Rattle.cases.specs.SecondCard.{secondCard, text}
 use Rattle.cases.specs.Turns.{Fact, _is_, Holds, Run, _⇒_, from, Shown, tries, inClass, bare, withLe, sending}
 use Rattle.cases.specs.Turns.{selectRoot, selectDirectory, selectFile, recordRead, getResponse, environment}
 use Rattle.cases.specs.Turns.{fives, withSession, sampleTries, sampleMarks, at, inEnvironment, chained, waiting}
+use Rattle.cases.specs.UnblockingCases.{blocked}
 
 -- A card in file 0016h with a held answer of 10 bytes and a chain of 255.
 abbrev pub pendingOn : Card → Card
@@ -85,7 +86,18 @@ dropping =
     ∷ PowerReset
     ∷ []
     )
-    ++ map (leftBy (pendingOn (sampleTries 3 0 3))) (verifyOf PIN1 pin1 ∷ sending 0x2C 0x00 PIN1 (puk ++ fives 4) ∷ [])
+    -- 24 of PIN2 and of PUK: stored
+    ++ map (leftBy pending) (sending 0x24 0x00 PIN2 (pin2 ++ fives 5) ∷ sending 0x24 0x00 PUK (puk ++ fives 8) ∷ [])
+    -- PIN1 blocked. 20: 6983; 2C: 9000, 6A80, 63Cx, 6982; with P1 03 and PUK open 9000
+    ++ map (leftBy (pendingOn (sampleTries 3 0 3))) (
+    verifyOf PIN1 pin1
+    ∷ sending 0x2C 0x00 PIN1 (puk ++ fives 4)
+    ∷ sending 0x2C 0x00 PIN1 (puk ++ fives 3)
+    ∷ sending 0x2C 0x00 PIN1 (fives 12)
+    ∷ bare 0x2C 0x03 PIN1
+    ∷ []
+    )
+    ++ map (leftBy (pendingOn (blocked 3 true))) (bare 0x2C 0x03 PIN1 ∷ bare 0x2C 0x03 PIN2 ∷ [])
     -- B0 of a certificate of one byte: 9000, 6282 and 6B00
     ++ map (leftBy (at 0xEEEE 0xAACE pending)) (withLe 0xB0 0x00 0x00 0x01 ∷ withLe 0xB0 0x00 0x00 0x02 ∷ withLe 0xB0 0x00 0x01 0x01 ∷ [])
     -- jobs 1, 2 and 3

@@ -88,17 +88,17 @@ queries =
           ∷ [];
       codes = marks true true false;
     }
-    -- after what closes a code: 63Cx; after a restoration 9000, after an unblocking 63C3
+    -- after what closes a code: 63Cx; after a right VERIFY and a successful CHANGE 9000, after an unblocking 63C3
     ∷ record {
       card = sampleMarks true true true;
       turns =
           changeOf PIN1 pin1 (fives 4) ⇒ sw 0x9000
-          ∷ asking PIN1 ⇒ sw 0x63C3
+          ∷ asking PIN1 ⇒ sw 0x9000
           ∷ verifyOf PIN2 (nines 5) ⇒ sw 0x63C2
           ∷ asking PIN2 ⇒ sw 0x63C2
           ∷ asking PUK ⇒ sw 0x9000
           ∷ [];
-      codes = code PUK 3 true ∷ code PIN1 3 false ∷ code PIN2 2 false ∷ [];
+      codes = code PUK 3 true ∷ code PIN1 3 true ∷ code PIN2 2 false ∷ [];
     }
     ∷ record {
       card = sampleTries 2 0 3;
@@ -177,6 +177,9 @@ between =
     ∷ deliverTo (replicate 256 0x5A)
     ∷ asking PIN2
     ∷ signSha1
+    ∷ changeOf PIN2 pin2 (fives 5)
+    ∷ asking PIN2
+    ∷ signSha1
     ∷ []
 
 pub record QueriesShown : Type 0 where
@@ -185,4 +188,4 @@ pub record QueriesShown : Type 0 where
   -- 6983 comes first: no tries and the mark on, which no good card has, so the edge is left out
   pub first : wordOn (withCodes sampleCard (storing puk 3 false ∷ storing pin1 0 true ∷ storing pin2 3 false ∷ []))
       (0x00 ∷ 0x20 ∷ 0x00 ∷ PIN1 ∷ []) ≡ 0x6983
-  pub counted : counts (trace sampleCard between) ≡ 0 ∷ 1 ∷ 0 ∷ 0 ∷ 1 ∷ 1 ∷ 0 ∷ 0 ∷ 1 ∷ 1 ∷ []
+  pub counted : counts (trace sampleCard between) ≡ 0 ∷ 1 ∷ 0 ∷ 0 ∷ 1 ∷ 2 ∷ 0 ∷ 0 ∷ 1 ∷ 1 ∷ 2 ∷ []

@@ -9,7 +9,8 @@ ghost use lib.ListN.{take, drop};
 ghost use Rattle.rules.specs.Codes.{marked};
 ghost use Rattle.rules.specs.Answers.{codeStatus};
 ghost use Rattle.rules.specs.CodeCommands.{verdict, judged, queried, verify, replaced};
-ghost use Rattle.rules.specs.CodeCommands.{change, unblockByVerifiedPuk, unblockByPresentedPuk, resetRetry};
+ghost use Rattle.rules.specs.CodeCommands.{change, unblocked, LeavesClosed};
+ghost use Rattle.rules.specs.CodeCommands.{unblockByVerifiedPuk, unblockByPresentedPuk, resetRetry};
 
 // A status word alone.
 fn code_status(codes: [Code; 3], sw: u16) -> CodeStep
@@ -148,7 +149,7 @@ fn replaced(
     }
 }
 
-// 24 CHANGE: the old value, as long as the stored one, then the new value.
+// 24 CHANGE: the old value, as long as the stored one, then the new value. Answered 9000, it leaves the code open.
 pub fn change(codes: [Code; 3], h: Header, values: &[u8]) -> CodeStep
     ensures { λ r. ⌜ r ≡ change codes h (now (values .entry)) ⌝ }
 {
@@ -156,9 +157,18 @@ pub fn change(codes: [Code; 3], h: Header, values: &[u8]) -> CodeStep
     let code = card_codes::code_of(codes, number);
     let found = verdict(code, old_value(code, values));
     let new = new_value(code, values);
-    let next = codes::storing(new, Code::TRIES, false);
+    let next = codes::storing(new, Code::TRIES, true);
     let stored = card_codes::with_code(codes, number, next);
     replaced(codes, number, number, new, stored, found)
+}
+
+// What 2C leaves where it is answered 9000: `code` for the PIN, with three tries, `left` tries for PUK, and both marks off.
+fn unblocked(codes: [Code; 3], pin: usize, code: Code, left: u8) -> [Code; 3]
+    ensures { λ r. ⌜ r ≡ unblocked codes pin code left ⌝ }
+{
+    let puk = card_codes::code_of(codes, Code::PUK);
+    let with_pin = card_codes::with_code(codes, pin, marked(code, Code::TRIES, false));
+    card_codes::with_code(with_pin, Code::PUK, marked(puk, left, false))
 }
 
 // 2C with P1 03: the PUK was verified before.
@@ -169,9 +179,8 @@ fn unblock_by_verified_puk(codes: [Code; 3], pin: usize) -> CodeStep
     if !puk.verified {
         return code_status(codes, 0x6982);
     }
-    let renewed = marked(card_codes::code_of(codes, pin), Code::TRIES, false);
-    let stored = card_codes::with_code(codes, pin, renewed);
-    code_status(card_codes::closed(stored, Code::PUK), 0x9000)
+    let blocked = card_codes::code_of(codes, pin);
+    code_status(unblocked(codes, pin, blocked, puk.tries), 0x9000)
 }
 
 // 2C with P1 00: the PUK, then the new PIN.
@@ -181,15 +190,15 @@ fn unblock_by_presented_puk(codes: [Code; 3], pin: usize, values: &[u8]) -> Code
     let puk = card_codes::code_of(codes, Code::PUK);
     let found = verdict(puk, old_value(puk, values));
     let new = new_value(puk, values);
-    let new_pin = codes::storing(new, Code::TRIES, false);
-    let with_pin = card_codes::with_code(codes, pin, new_pin);
-    let stored = card_codes::with_code(with_pin, Code::PUK, marked(puk, Code::TRIES, false));
+    let blocked = card_codes::code_of(codes, pin);
+    let renewed = codes::storing(new, blocked.tries, blocked.verified);
+    let stored = unblocked(codes, pin, renewed, Code::TRIES);
     replaced(codes, Code::PUK, pin, new, stored, found)
 }
 
-// 2C RESET RETRY.
+// 2C RESET RETRY. Its promise says itself that 9000 leaves the PIN and PUK closed.
 pub fn reset_retry(codes: [Code; 3], h: Header, values: &[u8]) -> CodeStep
-    ensures { λ r. ⌜ r ≡ resetRetry codes h (now (values .entry)) ⌝ }
+    ensures { λ r. ⌜ (r ≡ resetRetry codes h (now (values .entry))) × LeavesClosed codes (h .p2) r ⌝ }
 {
     let pin = numbers::wide(h.p2);
     let code = card_codes::code_of(codes, pin);

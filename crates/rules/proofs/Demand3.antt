@@ -8,6 +8,7 @@ use Rattle.rules.specs.Counting.{ofBytes}
 use Rattle.rules.specs.Demands.{Demand3}
 use Rattle.rules.proofs.SequenceBound.{wrong-bound, signature-bound}
 use Rattle.rules.proofs.SequenceMet.{met}
+use Rattle.rules.proofs.SequenceSigned.{new-openable, signed-met}
 use Rattle.rules.proofs.Loading.{fresh}
 use Rattle.rules.proofs.Keeping.{kept}
 
@@ -33,4 +34,5 @@ demand-3 image accepted =
             wrong = omega (arith, there .wrong);
           };
       signed = λ calls. omega (arith, signature-bound c calls (f .unverified 2 (omega arith)));
+      signedMet = λ some v n. signed-met kept v n c (new-openable (f .isGood) (f .session) (omega (arith, some, f .tries 2 (omega arith))));
     }

@@ -15,7 +15,7 @@ use Rattle.rules.specs.Codes.{PUK, fullTries, allowed, marked, zeroCode,
 use Rattle.rules.specs.State.{goodCode, goodCodes}
 use Rattle.rules.specs.Answers.{codeStatus}
 use Rattle.rules.specs.CodeCommands.{swNotAllowed, swHasTries, verdict, judged, queried, verify, replaced}
-use Rattle.rules.specs.CodeCommands.{change, unblockByPresentedPuk, resetRetry}
+use Rattle.rules.specs.CodeCommands.{change, unblocked, unblockByPresentedPuk, resetRetry}
 use Rattle.rules.proofs.Walks.{refusing, queried-walk, verify-walk, replaced-walk, verifiedPuk-walk, resetRetry-walk}
 use Rattle.rules.proofs.Parts.{code-tries, marked-good, stored-good, three-codes, good-code, codes-good, code-place}
 use Rattle.rules.proofs.KeepingAnswers.{KeepsCodes, refusing-alone, ok-alone, left-alone}
@@ -71,20 +71,28 @@ module _ (codes : List Code) (g : goodCodes codes ≡ true) where
 
   pub change-keeps : (h : Header) (d : Bytes) → h .p2 < 3 → KeepsCodes (change codes h d)
   unfolding change
-  change-keeps h d b = replaced-keeps (h .p2) b (h .p2) _ _ _ (λ a. with-code-good (h .p2) b _ (stored-good (h .p2) _ a))
+  change-keeps h d b =
+      replaced-keeps (h .p2) b (h .p2) _ _ _
+      (λ a. with-code-good (h .p2) b _ (marked-good (h .p2) _ (stored-good (h .p2) _ a) fullTries true (omega arith) refl))
 
 -- RESET RETRY COUNTER, which replaces two codes, one after the other.
 module _ (codes : List Code) (g : goodCodes codes ≡ true) where
+  unblocked-good : (pin : ℕ) → pin < 3 → (pinCode : Code) (t : ℕ) → goodCode pin (marked pinCode fullTries false) ≡ true → t ≤ 3
+      → goodCodes (unblocked codes pin pinCode t) ≡ true
+  unfolding unblocked
+  unblocked-good pin b pinCode t p low =
+      with-code-good _ (with-code-good codes g pin b _ p) PUK (omega arith) _
+      (marked-good PUK (codeOf codes PUK) (good-code codes g PUK (omega arith)) t false low refl)
+
   presented-keeps : (pin : ℕ) → pin < 3 → (d : Bytes) → KeepsCodes (unblockByPresentedPuk codes pin d)
   unfolding unblockByPresentedPuk
   presented-keeps pin b d =
-      let puk : goodCode PUK (marked (codeOf codes PUK) fullTries false) ≡ true = three-tries codes g PUK (omega arith) false in
-      replaced-keeps codes g PUK (omega arith) pin _ _ _
-      (λ a. with-code-good _ (with-code-good codes g pin b _ (stored-good pin _ a)) PUK (omega arith) _ puk)
+      replaced-keeps codes g PUK (omega arith) pin _ _ _ (λ a. unblocked-good pin b _ fullTries (stored-good pin _ a) (omega arith))
 
   pub resetRetry-keeps : (h : Header) (d : Bytes) → h .p2 < 3 → KeepsCodes (resetRetry codes h d)
   resetRetry-keeps h d b =
       resetRetry-walk KeepsCodes codes h d (refused-keeps swHasTries g refl)
       (λ _ _. verifiedPuk-walk KeepsCodes codes (h .p2) (refused-keeps 0x6982 g refl)
-      (λ _. done-keeps (closed-good _ (unmarked-good codes g (h .p2) b 3 (omega arith)) PUK (omega arith))))
+      (λ _. done-keeps (unblocked-good (h .p2) b _ (codeOf codes PUK .tries) (three-tries codes g (h .p2) b false)
+      (code-tries PUK (codeOf codes PUK) (good-code codes g PUK (omega arith))))))
       (λ _ _. presented-keeps (h .p2) b d)

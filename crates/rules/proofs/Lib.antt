@@ -19,8 +19,10 @@ pub mod FirstBytes
 pub mod GoodStates
 pub mod Queries
 pub mod Sheet
+pub mod Unblocking
 pub mod SequenceBound
 pub mod SequenceMet
+pub mod SequenceSigned
 pub mod Demand3
 pub mod ImageLaws
 pub mod CardSize

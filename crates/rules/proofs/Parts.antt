@@ -81,6 +81,10 @@ module _ (k : ℕ) (v : Code) (g : goodCode k v ≡ true) where
   pub code-length : length (value v) ≡ v .len
   code-length = room-taken most (v .digits) (v .len) code-room
 
+  pub code-allowed : allowed k (value v) ≡ true
+  unfolding allowed
+  code-allowed = simp (code-length, le-leb (least k) (v .len) code-least, le-leb (v .len) most code-most, code-digits)
+
   -- the same value with other tries and another mark
   pub marked-good : (t : ℕ) (m : Bool) → t ≤ 3 → (not m || eqb t fullTries) ≡ true → goodCode k (marked v t m) ≡ true
   unfolding goodCode

@@ -29,7 +29,7 @@ use Rattle.rules.specs.Edge.{Result, refuse, written, answered, command}
 use Rattle.rules.specs.Counting.{Call, Command, Delivery, PowerReset, Exchange, step, exchange, exchangeOf, next, trace}
 use Rattle.rules.specs.Counting.{number, statusWord, returnedStatus, returnedKind, formSends, sentBy, readOff}
 use Rattle.rules.specs.Counting.{isCommand, okStatus, wrongStatus, queries, verifies, changes, presentsPuk, presents}
-use Rattle.rules.specs.Counting.{unblocks, answers, wrongAnswer, restoration, unblocking, rightVerify, handsSignature}
+use Rattle.rules.specs.Counting.{unblocks, answers, wrongAnswer, restoration, unblocking, rightVerify, changed, handsSignature}
 use Rattle.rules.specs.CodeSheet.{asksAbout, asksPlainly, blockedStatus, queryStatus, Asked}
 use Rattle.rules.specs.Demands.{Uncounted, Queries}
 use Rattle.rules.proofs.StatusWords.{status-read, wrong-status, wrong-not-ok}
@@ -78,7 +78,7 @@ record Gives (c : Card) (k : ℕ) (o : Step) : Type 0 where
   answer : o .answer ≡ response [] word
   told : Told (codeOf (c .codes) k) word
 
--- A VERIFY without data presents a value for no code and unblocks none.
+-- A VERIFY without data presents a value for no code, and changes and unblocks none.
 module _ (h : Header) (verifying : h .ins ≡ 0x20) (without : h .lc ≡ 0) (k : ℕ) where
   pub verifies-nothing : verifies k h ≡ false
   unfolding verifies
@@ -87,6 +87,10 @@ module _ (h : Header) (verifying : h .ins ≡ 0x20) (without : h .lc ≡ 0) (k :
   pub presents-nothing : presents k h ≡ false
   unfolding presents verifies changes presentsPuk
   presents-nothing = rw (verifying, without, and-false)
+
+  changes-nothing : changes k h ≡ false
+  unfolding changes
+  changes-nothing = rw verifying
 
   pub unblocks-nothing : unblocks k h ≡ false
   unfolding unblocks
@@ -239,6 +243,7 @@ module _ (c : Card) (b auth sig w : Bytes) (h : Header) (start : ℕ) (p : parse
         restored = λ k. adds-nothing (restoration k) (rw (tested (presents k), presented-none k, and-false));
         unblocked = λ k. adds-nothing (unblocking k) (rw (tested (unblocks k), unblocks-nothing h (ins h q) (no-data h q) k, and-false));
         presented = adds-nothing (rightVerify PIN2) (rw (tested (verifies PIN2), verifies-nothing h (ins h q) (no-data h q) PIN2, and-false));
+        changed = adds-nothing (changed _) (rw (tested (changes _), changes-nothing h (ins h q) (no-data h q) _, and-false));
         signed = adds-nothing handsSignature (rw (gives .kind));
       }
 

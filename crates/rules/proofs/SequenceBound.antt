@@ -11,9 +11,9 @@ use Rattle.rules.specs.declared.Card.{Card}
 use Rattle.rules.specs.Numbers.{Returned, edge, responded, handedOut, wasReset}
 use Rattle.rules.specs.Codes.{PIN2, codeOf}
 use Rattle.rules.specs.Counting.{Call, Exchange, next, exchange, after, trace, returnedStatus, returnedKind}
-use Rattle.rules.specs.Counting.{byCommand, okStatus, wrongAnswer, restoration, unblocking, rightVerify}
+use Rattle.rules.specs.Counting.{byCommand, okStatus, wrongAnswer, restoration, unblocking, rightVerify, changed}
 use Rattle.rules.specs.Counting.{handsSignature, one, wrongAnswers, restorations, unblockings, signatures}
-use Rattle.rules.specs.Counting.{pin2Presentations}
+use Rattle.rules.specs.Counting.{pin2Presentations, pin2Changes}
 use Rattle.rules.specs.CodeSheet.{opens, closes}
 use Rattle.rules.proofs.Sheet.{code-after}
 
@@ -67,18 +67,26 @@ module _ (k : ℕ) (h3 : k < 3) where
   pub wrong-bound : (c : Card) (xs : List Call) → wrongAnswers k (trace c xs) ≤ codeOf (c .codes) k .tries + 2 * restorations k (trace c xs) + 3 * unblockings k (trace c xs)
   wrong-bound c xs = omega (arith, tries-run c xs)
 
+-- One or the other of two tests counts at most as often as both together.
+one-of-two : (s t : Bool) → one (s || t) ≤ one s + one t
+one-of-two true t = omega arith
+one-of-two false t = omega arith
+
 mark-moved : (c : Card) (x : Call) → one (handsSignature (exchange c x)) + one (codeOf (next c x .codes) PIN2 .verified)
-    ≤ one (codeOf (c .codes) PIN2 .verified) + one (rightVerify PIN2 (exchange c x))
+    ≤ one (codeOf (c .codes) PIN2 .verified) + (one (rightVerify PIN2 (exchange c x)) + one (changed PIN2 (exchange c x)))
 unfolding opens
 mark-moved c x =
     let s = code-after PIN2 (omega arith) c x in
     let e : Exchange = exchange c x in
-    mark-step (handsSignature e) (opens PIN2 e) (closes PIN2 e) (codeOf (c .codes) PIN2 .verified) (codeOf (next c x .codes) PIN2 .verified) (s .verified) (s .signed) (signature-closes e) (signature-opens e)
+    let moved = mark-step (handsSignature e) (opens PIN2 e) (closes PIN2 e) (codeOf (c .codes) PIN2 .verified) (codeOf (next c x .codes) PIN2 .verified) (s .verified) (s .signed) (signature-closes e) (signature-opens e) in
+    omega (arith, moved, one-of-two (rightVerify PIN2 e) (changed PIN2 e))
 
-mark-run : (c : Card) (xs : List Call) → signatures (trace c xs) + one (codeOf (after c xs .codes) PIN2 .verified) ≤ one (codeOf (c .codes) PIN2 .verified) + pin2Presentations (trace c xs)
+mark-run : (c : Card) (xs : List Call) → signatures (trace c xs) + one (codeOf (after c xs .codes) PIN2 .verified)
+    ≤ one (codeOf (c .codes) PIN2 .verified) + (pin2Presentations (trace c xs) + pin2Changes (trace c xs))
 mark-run c [] = omega arith
 mark-run c (x ∷ xs) = omega (arith, mark-run (next c x) xs, mark-moved c x)
 
--- signatures are at most right presentations of PIN2, from a card on which PIN2 is not verified
-pub signature-bound : (c : Card) (xs : List Call) → codeOf (c .codes) PIN2 .verified ≡ false → signatures (trace c xs) ≤ pin2Presentations (trace c xs)
+-- signatures are at most right presentations and successful CHANGEs of PIN2, from a card on which PIN2 is not verified
+pub signature-bound : (c : Card) (xs : List Call) → codeOf (c .codes) PIN2 .verified ≡ false
+    → signatures (trace c xs) ≤ pin2Presentations (trace c xs) + pin2Changes (trace c xs)
 signature-bound c xs m = omega (arith, mark-run c xs, ap one m)

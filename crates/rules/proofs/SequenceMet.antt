@@ -17,12 +17,12 @@ use Rattle.rules.specs.declared.Card.{Card}
 use Rattle.rules.specs.declared.Code.{Code}
 use Rattle.rules.specs.declared.Header.{Header}
 use Rattle.rules.specs.Numbers.{form}
-use Rattle.rules.specs.Codes.{PUK, fullTries, value, marked, codeOf, withCode, closed}
+use Rattle.rules.specs.Codes.{PUK, fullTries, value, marked, codeOf, withCode}
 use Rattle.rules.specs.Session.{dropBoth}
 use Rattle.rules.specs.State.{goodCode, good}
 use Rattle.rules.specs.Apdu.{dataStart, parse, dataOf}
 use Rattle.rules.specs.Answers.{response, codeStatus, inCodes}
-use Rattle.rules.specs.CodeCommands.{verdict, judged, verify, unblockByVerifiedPuk, resetRetry}
+use Rattle.rules.specs.CodeCommands.{verdict, judged, verify, unblocked, unblockByVerifiedPuk, resetRetry}
 use Rattle.rules.specs.Judgement.{instruction, parameters, lengths, ownRules, knownInstruction, namedIn}
 use Rattle.rules.specs.Judgement.{judgeNamed, judgeHeader, judgeForm, judge}
 use Rattle.rules.specs.Edge.{written, shortBuffer, command}
@@ -94,20 +94,20 @@ recount restored unblocked wrong p =
     }
 
 -- A command with certificates and a buffer that the edge takes.
-buffer : Bytes
+pub buffer : Bytes
 buffer = replicate 258 0
 
-abbrev certificate : Bytes
+abbrev pub certificate : Bytes
 certificate = 0x30 ∷ []
 
-abbrev sent : Bytes → Call
+abbrev pub sent : Bytes → Call
 sent apdu = Command apdu certificate certificate buffer
 
-sent-bytes : (apdu : Bytes) → allBytes apdu ≡ true → ofBytes (sent apdu) ≡ true
+pub sent-bytes : (apdu : Bytes) → allBytes apdu ≡ true → ofBytes (sent apdu) ≡ true
 unfolding buffer
 sent-bytes apdu e = rw e
 
-buffer-taken : shortBuffer buffer ≡ false
+pub buffer-taken : shortBuffer buffer ≡ false
 unfolding buffer
 buffer-taken = refl
 
@@ -115,35 +115,43 @@ buffer-taken = refl
 abbrev withCodes : Card → List Code → Card
 withCodes c codes = record { codes = codes; profile = c .profile; session = dropBoth (c .session) }
 
--- A VERIFY of code j with the data d.
+-- A VERIFY (20) or a CHANGE (24) of code j with the data d.
+abbrev pub dataApdu : ℕ → ℕ → Bytes → Bytes
+dataApdu ins j d = 0x00 ∷ ins ∷ 0x00 ∷ j ∷ length d ∷ d
+
+abbrev pub dataHeader : ℕ → ℕ → Bytes → Header
+dataHeader ins j d = record { cla = 0x00; ins = ins; p1 = 0x00; p2 = j; lc = length d; le = 0 }
+
+module _ (ins j : ℕ) (d : Bytes) where
+  pub data-form : 1 ≤ length d → parse (dataApdu ins j d) ≡ form (dataHeader ins j d) dataStart
+  unfolding parse
+  data-form some =
+      simp (
+        ne-eqb (length (dataApdu ins j d)) 4 (omega arith),
+        ne-eqb (length (dataApdu ins j d)) 5 (omega arith),
+        le-leb 1 (length d) some,
+        eq-eqb (length (dataApdu ins j d)) (5 + length d) (omega arith),
+      )
+
+  pub data-bytes : ins < 256 → j < 3 → length d < 256 → allBytes d ≡ true → allBytes (dataApdu ins j d) ≡ true
+  data-bytes i h short e = simp (lt-ltb ins 256 i, lt-ltb j 256 (omega arith), lt-ltb (length d) 256 short, e)
+
+-- A VERIFY.
 abbrev verifyApdu : ℕ → Bytes → Bytes
-verifyApdu j d = 0x00 ∷ 0x20 ∷ 0x00 ∷ j ∷ length d ∷ d
+verifyApdu = dataApdu 0x20
 
 abbrev verifyHeader : ℕ → Bytes → Header
-verifyHeader j d = record { cla = 0x00; ins = 0x20; p1 = 0x00; p2 = j; lc = length d; le = 0 }
+verifyHeader = dataHeader 0x20
 
 -- The codes after it, where the data are the right value.
-abbrev afterVerify : List Code → ℕ → List Code
+abbrev pub afterVerify : List Code → ℕ → List Code
 afterVerify codes j = withCode codes j (marked (codeOf codes j) fullTries true)
 
 module _ (j : ℕ) (d : Bytes) (some : 1 ≤ length d) where
-  verify-form : parse (verifyApdu j d) ≡ form (verifyHeader j d) dataStart
-  unfolding parse
-  verify-form =
-      simp (
-        ne-eqb (length (verifyApdu j d)) 4 (omega arith),
-        ne-eqb (length (verifyApdu j d)) 5 (omega arith),
-        le-leb 1 (length d) some,
-        eq-eqb (length (verifyApdu j d)) (5 + length d) (omega arith),
-      )
-
-  verify-judged : (c : Card) → j < 3 → judgeHeader c (verifyHeader j d) (dataOf (verifyApdu j d) dataStart (verifyHeader j d)) certificate certificate
+  pub verify-judged : (c : Card) → j < 3 → judgeHeader c (verifyHeader j d) (dataOf (verifyApdu j d) dataStart (verifyHeader j d)) certificate certificate
       ≡ inCodes (dropBoth (c .session)) (judged (c .codes) j (verdict (codeOf (c .codes) j) d))
   unfolding judgeHeader knownInstruction instruction namedIn parameters judgeNamed lengths ownRules verify
   verify-judged c h = simp (le-leb j 2 (omega arith), ne-eqb (length d) 0 (omega arith), take-length d)
-
-  verify-bytes : j < 3 → length d ≤ 12 → allBytes d ≡ true → allBytes (verifyApdu j d) ≡ true
-  verify-bytes h short e = simp (lt-ltb j 256 (omega arith), lt-ltb (length d) 256 (omega arith), e)
 
   -- it presents code j and no other, and unblocks nothing
   verify-presents : (k : ℕ) → presents k (verifyHeader j d) ≡ eqb j k
@@ -153,6 +161,12 @@ module _ (j : ℕ) (d : Bytes) (some : 1 ≤ length d) where
   verify-no-unblocking : (k : ℕ) → unblocks k (verifyHeader j d) ≡ false
   unfolding unblocks
   verify-no-unblocking k = refl
+
+-- The right value of code j is judged right.
+pub right-judged : (codes : List Code) (j : ℕ) → 1 ≤ codeOf codes j .tries
+    → judged codes j (verdict (codeOf codes j) (value (codeOf codes j))) ≡ codeStatus (afterVerify codes j) 0x9000
+unfolding verdict judged
+right-judged codes j some = simp (ne-eqb (codeOf codes j .tries) 0 (omega arith), same-refl (value (codeOf codes j)))
 
 -- The command 00 2C 03 k, which unblocks PIN k once PUK is verified.
 abbrev unblockApdu : ℕ → Bytes
@@ -167,7 +181,7 @@ unblock-form k = refl
 
 -- The codes after it.
 abbrev afterUnblock : List Code → ℕ → List Code
-afterUnblock codes k = closed (withCode codes k (marked (codeOf codes k) fullTries false)) PUK
+afterUnblock codes k = unblocked codes k (codeOf codes k) (codeOf codes PUK .tries)
 
 unblock-judged : (k : ℕ) (c : Card) → 1 ≤ k → k < 3 → codeOf (c .codes) k .tries ≡ 0 → codeOf (c .codes) PUK .verified ≡ true
     → judgeHeader c (unblockHeader k) (dataOf (unblockApdu k) dataStart (unblockHeader k)) certificate certificate
@@ -186,10 +200,10 @@ unblock-unblocks k low = simp (eq-eqb k k refl, le-leb 1 k low)
 
 -- The length of a good code's value.
 module _ (k : ℕ) (v : Code) (g : goodCode k v ≡ true) where
-  value-least : 4 ≤ length (value v)
+  pub value-least : 4 ≤ length (value v)
   value-least = omega (arith, code-length k v g, code-least k v g, least-some k)
 
-  value-most : length (value v) ≤ 12
+  pub value-most : length (value v) ≤ 12
   value-most = omega (arith, code-length k v g, code-most k v g)
 
 -- The tries left after one code was replaced.
@@ -239,11 +253,11 @@ module _ (kept : (c : Card) (x : Call) → ofBytes x ≡ true → good c ≡ tru
     abbrev d : Card
     d = withCodes c codes
 
-    gives : step c (sent apdu) ≡ written buffer d (response [] sw)
+    pub gives : step c (sent apdu) ≡ written buffer d (response [] sw)
     unfolding step command judge judgeForm
     gives = simp (isGood, buffer-taken, eq-eqb (c .session .job .kind) 0 noJob, formed, judgement)
 
-    leads-to : next c (sent apdu) ≡ d
+    pub leads-to : next c (sent apdu) ≡ d
     unfolding written
     leads-to = rw (gives, next)
 
@@ -251,7 +265,7 @@ module _ (kept : (c : Card) (x : Call) → ofBytes x ≡ true → good c ≡ tru
     unfolding written
     reads = rw gives (status-read buffer sw)
 
-    counts : (statusTest : ℕ → Bool) (test : Header → Bool) → answers statusTest test (exchange c (sent apdu)) ≡ (statusTest sw && test h)
+    pub counts : (statusTest : ℕ → Bool) (test : Header → Bool) → answers statusTest test (exchange c (sent apdu)) ≡ (statusTest sw && test h)
     unfolding sentBy formSends readOff
     counts statusTest test = rw (reads, formed)
 
@@ -280,14 +294,14 @@ module _ (kept : (c : Card) (x : Call) → ofBytes x ≡ true → good c ≡ tru
       (rw (verify-presents j v some k))
       (rw (verify-no-unblocking j v some k, and-false))
       (rw (verify-presents j v some k))
-      (one-call c codes (verifyApdu j v) (verifyHeader j v) dataStart sw isGood noJob (verify-form j v some)
+      (one-call c codes (verifyApdu j v) (verifyHeader j v) dataStart sw isGood noJob (data-form 0x20 j v some)
       (verify-judged j v some c h ∙ ap (inCodes (dropBoth (c .session))) judgement)
-      k (verify-bytes j v some h short (digits-bytes v digits)) p)
+      k (data-bytes 0x20 j v (omega arith) h (omega arith) (digits-bytes v digits)) p)
 
   -- The right value of code j.
   right-value : (j k : ℕ) (c : Card) {P : Card → Type 0} → j < 3 → good c ≡ true → c .session .job .kind ≡ 0 → 1 ≤ codeOf (c .codes) j .tries
       → (good (withCodes c (afterVerify (c .codes) j)) ≡ true → P (withCodes c (afterVerify (c .codes) j))) → Run k c P (one (eqb j k)) 0 0
-  unfolding verdict judged okStatus wrongStatus
+  unfolding okStatus wrongStatus
   right-value j k c h isGood noJob tries p =
       let v = codeOf (c .codes) j in
       let g : goodCode j v ≡ true = good-code (c .codes) (good-codes c isGood) j h in
@@ -297,7 +311,7 @@ module _ (kept : (c : Card) (x : Call) → ofBytes x ≡ true → good c ≡ tru
       (code-digits j v g)
       isGood
       noJob
-      (simp (ne-eqb (v .tries) 0 (omega arith), same-refl (value v)))
+      (right-judged (c .codes) j tries)
       p
 
   module _ (k : ℕ) (h : k < 3) where
@@ -364,13 +378,13 @@ module _ (kept : (c : Card) (x : Call) → ofBytes x ≡ true → good c ≡ tru
 
       -- The unblocking.
       unblock-call : (c : Card) → PukVerified k c → Run k c (TriesLeft k 3) 0 1 0
-      unfolding okStatus wrongStatus
+      unfolding okStatus wrongStatus unblocked
       unblock-call c opened =
           let before = opened .blocked in
           let place = code-place (c .codes) (good-codes c (before .isGood)) in
           let v : Code = marked (codeOf (c .codes) k) fullTries false in
           let first : List Code = withCode (c .codes) k v in
-          let shut : Code = marked (codeOf first PUK) (codeOf first PUK .tries) false in
+          let shut : Code = marked (codeOf (c .codes) PUK) (codeOf (c .codes) PUK .tries) false in
           let there : PUK < length first = omega (arith, length-set (c .codes) k v, place PUK (omega arith)) in
           recount
           (rw (unblock-no-presentation k))
@@ -385,7 +399,7 @@ module _ (kept : (c : Card) (x : Call) → ofBytes x ≡ true → good c ≡ tru
             isGood = g;
             noJob = before .noJob;
             left = tries-other first PUK shut there k (omega arith) ∙ tries-same (c .codes) k v (place k h);
-            puk = λ other. tries-same first PUK shut there ∙ tries-other (c .codes) k v (place k h) PUK other ∙ before .puk other;
+            puk = λ other. tries-same first PUK shut there ∙ before .puk other;
           }))
 
       -- Three wrong values and an unblocking, u times.

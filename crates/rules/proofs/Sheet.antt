@@ -23,7 +23,7 @@ use Rattle.rules.specs.declared.Profile.{Profile}
 use Rattle.rules.specs.declared.Session.{Session}
 use Rattle.rules.specs.declared.Verdict.the-variants.{Right, Wrong}
 use Rattle.rules.specs.Numbers.{Returned, LengthForm, form, refused, Naming}
-use Rattle.rules.specs.Codes.{PUK, PIN1, PIN2, value, storing, marked, codeOf, withCode, closed}
+use Rattle.rules.specs.Codes.{PUK, PIN1, PIN2, value, storing, withValue, marked, codeOf, withCode, closed}
 use Rattle.rules.specs.Apdu.{parse, dataOf}
 use Rattle.rules.specs.Session.{dropBoth}
 use Rattle.rules.specs.State.{good, goodCodes}
@@ -32,7 +32,7 @@ use Rattle.rules.specs.Answers.{inCodes, give}
 use Rattle.rules.specs.FileCommands.{select, readRecord, readBinary, getResponse}
 use Rattle.rules.specs.KeyCommands.{setEnvironment, chooseKey, internalAuthenticate, sign, decipher}
 use Rattle.rules.specs.CodeCommands.{swNotAllowed, swHasTries, verdict, judged, queried, verify, newValue, change}
-use Rattle.rules.specs.CodeCommands.{unblockByVerifiedPuk, unblockByPresentedPuk, resetRetry}
+use Rattle.rules.specs.CodeCommands.{unblocked, unblockByVerifiedPuk, unblockByPresentedPuk, resetRetry}
 use Rattle.rules.specs.Judgement.{commands, instruction, parameters, hasData, lengths, ownRules, refusal}
 use Rattle.rules.specs.Judgement.{knownClass, knownInstruction, badChaining, judgeNamed, judgeHeader, judgeForm}
 use Rattle.rules.specs.Judgement.{judge}
@@ -41,8 +41,8 @@ use Rattle.rules.specs.Edge.{Result, refuse, written, cardAfter, answere
 use Rattle.rules.specs.Counting.{Call, Command, Delivery, PowerReset, Exchange, step, exchangeOf, statusWord}
 use Rattle.rules.specs.Counting.{returnedStatus, returnedKind, formSends, sentBy, readOff, dataSent, isCommand}
 use Rattle.rules.specs.Counting.{okStatus, wrongStatus, verifies, changes, presentsPuk, unblocks, presents}
-use Rattle.rules.specs.Counting.{answers, wrongAnswer, restoration, unblocking, rightVerify, handsSignature}
-use Rattle.rules.specs.CodeSheet.{CodeSheet, verifiedAfter, valueAfter, changed, anyUnblocks, anyUnblocked}
+use Rattle.rules.specs.Counting.{answers, wrongAnswer, restoration, unblocking, rightVerify, changed, handsSignature}
+use Rattle.rules.specs.CodeSheet.{CodeSheet, verifiedAfter, valueAfter, anyUnblocks, anyUnblocked}
 use Rattle.rules.specs.CodeSheet.{byVerifiedPuk, presentedBy, presentedIn, handsPin1Job, storesPin, resetDone}
 use Rattle.rules.specs.CodeSheet.{opens, closes, Sheet}
 use Rattle.rules.proofs.StatusWords.{status-read, wrong-status, wrong-not-ok}
@@ -254,11 +254,11 @@ module _ (codes : List Code) where
 
 -- What a header's tests say, by its instruction.
 module _ (k : ℕ) (h : Header) where
-  verifies-no : eqb (h .ins) 0x20 ≡ false → verifies k h ≡ false
+  pub verifies-no : eqb (h .ins) 0x20 ≡ false → verifies k h ≡ false
   unfolding verifies
   verifies-no n = rw n
 
-  changes-no : eqb (h .ins) 0x24 ≡ false → changes k h ≡ false
+  pub changes-no : eqb (h .ins) 0x24 ≡ false → changes k h ≡ false
   unfolding changes
   changes-no n = rw n
 
@@ -311,7 +311,7 @@ module _ (k : ℕ) (h3 : k < 3) (c : Card) (g : goodCodes (c .codes) ≡ true) (
 
   -- 9000
   accepted : (codes : List Code)
-      → codeOf codes k .verified ≡ (verifies k h || (not (changes k h || unblocks k h || (eqb k PUK && anyUnblocks h)) && codeOf cs k .verified))
+      → codeOf codes k .verified ≡ ((verifies k h || changes k h) || (not (unblocks k h || (eqb k PUK && anyUnblocks h)) && codeOf cs k .verified))
       → codeOf codes k .tries ≡ cond (presents k h || unblocks k h) 3 (codeOf cs k .tries)
       → value (codeOf codes k) ≡ cond (changes k h) (drop (length (value (codeOf cs k))) d)
       (cond (storesPin k h) (drop (length (value (codeOf cs PUK))) d) (value (codeOf cs k)))
@@ -500,7 +500,7 @@ module _ (k : ℕ) (h3 : k < 3) (c : Card) (g : goodCodes (c .codes) ≡ true) (
     change-sheet =
         let j = h .p2 in
         let new : Bytes = newValue cs j d in
-        let v : Code = storing new 3 false in
+        let v : Code = storing new 3 true in
         let codes : List Code = withCode cs j v in
         let size : length (value (codeOf cs j)) ≡ codeOf cs j .len = code-length j (codeOf cs j) (good-code cs g j few) in
         let free-k = unblocks-no k h (rw i) in
@@ -582,59 +582,51 @@ module _ (k : ℕ) (h3 : k < 3) (c : Card) (g : goodCodes (c .codes) ≡ true) (
           let not-puk : presents k h ≡ false = puk-presents k ∙ rw (ne-eqb k PUK m) in
           untouched codes now (verifies-no k h (rw i)) (changes-no k h (rw i)) frees not-puk (rw (ne-eqb k PUK m)) puk
 
-      unblocked-done : (k ≡ j → T (codeStatus codes 0x9000)) → (k ≡ PUK → T (codeStatus codes 0x9000))
-          → (k ≢ j → k ≢ PUK → codeOf codes k ≡ codeOf cs k) → T (codeStatus codes 0x9000)
-      unblocked-done f u n = either _ k j f (λ a. either _ k PUK u (λ m. other-done a m (n a m)))
+    -- 9000, in both forms
+    unblocked-sheet : (eqb (h .p1) 0x00 || eqb (h .p1) 0x03) ≡ true → codeOf cs j .tries ≡ 0
+        → (byVerifiedPuk h ≡ true → codeOf cs PUK .verified ≡ true) → (pinCode : Code) (t : ℕ)
+        → value pinCode ≡ cond (eqb (h .p1) 0x00) (drop (length (value (codeOf cs PUK))) d) (value (codeOf cs j))
+        → t ≡ cond (eqb (h .p1) 0x00) 3 (codeOf cs PUK .tries) → (eqb (h .p1) 0x00 ≡ true → 1 ≤ codeOf cs PUK .tries)
+        → (eqb (h .p1) 0x00 ≡ true → same (presentedBy (value (codeOf cs PUK)) h d) (value (codeOf cs PUK)) ≡ true)
+        → T (codeStatus (unblocked cs j pinCode t) 0x9000)
+    unfolding unblocked
+    unblocked-sheet q blocked puk pinCode t stored tries some right =
+        let v : Code = marked pinCode 3 false in
+        let first : List Code = withCode cs j v in
+        let u : Code = marked (codeOf cs PUK) t false in
+        let both : List Code = withCode first PUK u in
+        let sized : length first ≡ length cs = length-set cs j v in
+        either _ k j
+        (λ e.
+        let now : codeOf both k ≡ v = other-code first PUK u (omega arith) sized (omega arith) ∙ same-code cs j v few refl e in
+        pin-done q blocked puk both e (ap (λ (v : Code). v .verified) now) (ap (λ (v : Code). v .tries) now) (ap value now ∙ rw e stored))
+        (λ n. either _ k PUK
+        (λ e.
+        let now : codeOf both k ≡ u = same-code first PUK u (omega arith) sized e in
+        puk-done q blocked puk both e (ap (λ (v : Code). v .verified) now) (ap (λ (v : Code). v .tries) now ∙ rw e tries)
+        (ap value now ∙ rw e) (rw e some) (rw e right))
+        (λ m. other-done q blocked puk both n m (other-code first PUK u (omega arith) sized m ∙ other-code cs j v few refl n)))
 
     -- P1 03
     verified-puk-sheet : h .p1 ≡ 0x03 → codeOf cs j .tries ≡ 0 → T (unblockByVerifiedPuk cs j)
     unfolding okStatus wrongStatus
     verified-puk-sheet q blocked =
-        let v : Code = marked (codeOf cs j) 3 false in
-        let first : List Code = withCode cs j v in
-        let u : Code = marked (codeOf first PUK) (codeOf first PUK .tries) false in
-        let both : List Code = withCode first PUK u in
-        let sized : length first ≡ length cs = length-set cs j v in
-        let puk-kept : codeOf first PUK ≡ codeOf cs PUK = code-other cs j v (code-place cs g j few) PUK (omega arith) in
         verifiedPuk-walk T cs j (turned-down 0x6982 refl refl)
-        (λ given.
-        let puk-shown : byVerifiedPuk h ≡ true → codeOf cs PUK .verified ≡ true = λ _. given in
-        unblocked-done (rw q) blocked puk-shown both
-        (λ e.
-        let now : codeOf both k ≡ v = other-code first PUK u (omega arith) sized (omega arith) ∙ same-code cs j v few refl e in
-        pin-done (rw q) blocked puk-shown both e (ap (λ (v : Code). v .verified) now) (ap (λ (v : Code). v .tries) now) (ap value now ∙ rw (q, e)))
-        (λ e.
-        let now : codeOf both k ≡ u = same-code first PUK u (omega arith) sized e in
-        puk-done (rw q) blocked puk-shown both e (ap (λ (v : Code). v .verified) now)
-        (ap (λ (v : Code). v .tries) now ∙ rw (puk-kept, q, e)) (ap value now ∙ ap value puk-kept ∙ rw e) (never (rw q)) (never (rw q)))
-        (λ n m. other-code first PUK u (omega arith) sized m ∙ other-code cs j v few refl n))
+        (λ given. unblocked-sheet (rw q) blocked (λ _. given) (codeOf cs j) (codeOf cs PUK .tries) (rw q) (rw q) (never (rw q)) (never (rw q)))
 
     -- P1 00
     presented-puk-sheet : h .p1 ≡ 0x00 → codeOf cs j .tries ≡ 0 → T (unblockByPresentedPuk cs j d)
     unfolding unblockByPresentedPuk okStatus wrongStatus
     presented-puk-sheet q blocked =
         let new : Bytes = newValue cs PUK d in
-        let v : Code = storing new 3 false in
-        let first : List Code = withCode cs j v in
-        let u : Code = marked (codeOf cs PUK) 3 false in
-        let both : List Code = withCode first PUK u in
-        let sized : length first ≡ length cs = length-set cs j v in
+        let v : Code = withValue (codeOf cs j) new in
         let size : length (value (codeOf cs PUK)) ≡ codeOf cs PUK .len = code-length PUK (codeOf cs PUK) (good-code cs g PUK (omega arith)) in
-        let puk-shown : byVerifiedPuk h ≡ true → codeOf cs PUK .verified ≡ true = never (rw (i, q)) in
-        replaced-walk T cs PUK j new both _
+        replaced-walk T cs PUK j new (unblocked cs j v 3) _
         (λ _. turned-down 0x6983 refl refl)
         (λ some other. wrong-sheet PUK (omega arith) (puk-presents PUK ∙ rw q) (λ m n. puk-presents m ∙ rw (ne-eqb m PUK n)) some (rw (i, size) other))
         (turned-down swNotAllowed refl refl)
-        (λ some right a. unblocked-done (rw q) blocked puk-shown both
-        (λ e.
-        let now : codeOf both k ≡ v = other-code first PUK u (omega arith) sized (omega arith) ∙ same-code cs j v few refl e in
-        pin-done (rw q) blocked puk-shown both e (ap (λ (v : Code). v .verified) now) (ap (λ (v : Code). v .tries) now)
-        (ap value now ∙ take-filled 12 new (allowed-most j new a) ∙ rw (q, size)))
-        (λ e.
-        let now : codeOf both k ≡ u = same-code first PUK u (omega arith) sized e in
-        puk-done (rw q) blocked puk-shown both e (ap (λ (v : Code). v .verified) now) (ap (λ (v : Code). v .tries) now ∙ rw q) (ap value now ∙ rw e)
-        (λ _. rw e some) (λ _. rw (i, e, size) right))
-        (λ n m. other-code first PUK u (omega arith) sized m ∙ other-code cs j v few refl n))
+        (λ some right a. unblocked-sheet (rw q) blocked (never (rw (i, q))) v 3
+        (take-filled 12 new (allowed-most j new a) ∙ rw (q, size)) (rw q) (λ _. some) (λ _. rw (i, size) right))
 
     resetRetry-sheet : (eqb (h .p1) 0x00 || eqb (h .p1) 0x03) ≡ true → T (resetRetry cs h d)
     unfolding okStatus wrongStatus

@@ -21,7 +21,7 @@ use Rattle.rules.specs.declared.Session.{Session}
 use Rattle.rules.specs.declared.Verdict.{Verdict}
 use Rattle.rules.specs.declared.Verdict.the-variants.{Right, Wrong, NoTries}
 use Rattle.rules.specs.Numbers.{kindNumber}
-use Rattle.rules.specs.Codes.{PUK, PIN1, PIN2, fullTries, allowed, value, marked, codeOf, withCode, closed}
+use Rattle.rules.specs.Codes.{PUK, PIN1, PIN2, allowed, value, codeOf, closed}
 use Rattle.rules.specs.Keys.{ofClass, present}
 use Rattle.rules.specs.Session.{root, esteidDirectory, noFile, heldBytes, chainBytes, withSelection}
 use Rattle.rules.specs.Session.{withEnvironment, withHeld, withChain, withJob, allActive, noJob, dropHeld}
@@ -31,7 +31,7 @@ use Rattle.rules.specs.Answers.{Step, SessionStep, response, codeStatus,
 use Rattle.rules.specs.Answers.{moreBytes, give, handOut}
 use Rattle.rules.specs.FileCommands.{select, readRecord, readStatus, readBinary, getResponse}
 use Rattle.rules.specs.CodeCommands.{swNotAllowed, swHasTries, verdict, judged, queried, verify, replaced}
-use Rattle.rules.specs.CodeCommands.{unblockByVerifiedPuk, unblockByPresentedPuk, resetRetry}
+use Rattle.rules.specs.CodeCommands.{unblocked, unblockByVerifiedPuk, unblockByPresentedPuk, resetRetry}
 use Rattle.rules.specs.Digests.{isDigest}
 use Rattle.rules.specs.KeyCommands.{swWithoutPin, setEnvironment, kindChosen, choosing, namesKey, chooseKey, jobKey}
 use Rattle.rules.specs.KeyCommands.{internalAuthenticate, sign, decipher}
@@ -241,7 +241,7 @@ replaced-walk P codes k j new stored presented none wrong bad done =
 pub verifiedPuk-walk : (P : CodeStep → Type 0) (codes : List Code) (pin : ℕ)
     → P (codeStatus codes 0x6982)
     → (codeOf codes PUK .verified ≡ true
-    → P (codeStatus (closed (withCode codes pin (marked (codeOf codes pin) fullTries false)) PUK) 0x9000))
+    → P (codeStatus (unblocked codes pin (codeOf codes pin) (codeOf codes PUK .tries)) 0x9000))
     → P (unblockByVerifiedPuk codes pin)
 unfolding unblockByVerifiedPuk
 verifiedPuk-walk P codes pin none done = split P (not (codeOf codes PUK .verified)) (λ _. none) (λ e. done (not-false _ e))

@@ -13,7 +13,7 @@ use Rattle.rules.specs.Codes.{PUK, PIN1, PIN2, codeOf}
 use Rattle.rules.specs.Digests.{sha1Prefix}
 use Rattle.rules.specs.Counting.{Call, Command, Delivery, PowerReset, trace, after, returnedStatus}
 use Rattle.rules.specs.Writer.{write}
-use Rattle.rules.specs.Sample.{sampleCard, sampleImage, pin1, pin2}
+use Rattle.rules.specs.Sample.{sampleCard, sampleImage, puk, pin1, pin2}
 
 -- What is seen of a call: response data and status word; a job's kind, key and block; an edge refusal's number; or a reset.
 -- Of a code afterwards: its number, tries and mark. Of padding: its answer, and how many bytes FF stand after 00 01.
@@ -111,6 +111,13 @@ signJob = hands 2 0x0100 (0x00 ∷ 0x01 ∷ (replicate 218 0xFF ++ 0x00 ∷ sha1
 
 abbrev pub changePin1To12 : Call
 changePin1To12 = withBody 0x00 0x24 0x00 PIN1 (pin1 ++ 0x31 ∷ 0x32 ∷ [])
+
+-- CHANGE of PIN2 to 55555, and of PUK to 55555555.
+abbrev pub changePin2 : Call
+changePin2 = withBody 0x00 0x24 0x00 PIN2 (pin2 ++ replicate 5 0x35)
+
+abbrev pub changePuk : Call
+changePuk = withBody 0x00 0x24 0x00 PUK (puk ++ replicate 8 0x35)
 
 abbrev pub chooseKeyOf : ℕ → ℕ → ℕ → Call
 chooseKeyOf p2 high low = withBody 0x00 0x22 0x41 p2 (0x83 ∷ 0x03 ∷ 0x80 ∷ high ∷ low ∷ [])
@@ -221,6 +228,49 @@ cases =
           ∷ shows (0x80 ∷ 0x01 ∷ 0x03 ∷ 0x90 ∷ 0x01 ∷ 0x03 ∷ []) 0x9000
           ∷ sw 0x6106
           ∷ shows (0x80 ∷ 0x01 ∷ 0x03 ∷ 0x90 ∷ 0x01 ∷ 0x03 ∷ []) 0x9000
+          ∷ fresh;
+    }
+    -- a changed code counts as given (02, wish 4): PIN2 changed and a signature at once, then 6982
+    ∷ record {
+      seen = onSample (changePin2 ∷ signSha1 ∷ deliverTo (replicate 256 0x5A) ∷ signSha1 ∷ []);
+      expected = sw 0x9000 ∷ signJob ∷ sw 0x6100 ∷ sw 0x6982 ∷ fresh;
+    }
+    -- PIN1 blocked, PUK changed, PIN1 unblocked with P1 03: PIN1 and PUK are closed, PIN2, changed before, is open
+    ∷ record {
+      seen = onSample (
+          wrongPin1
+          ∷ wrongPin1
+          ∷ wrongPin1
+          ∷ changePin2
+          ∷ changePuk
+          ∷ send (0x00 ∷ 0x2C ∷ 0x03 ∷ 0x01 ∷ [])
+          ∷ []
+          );
+      expected =
+          sw 0x63C2
+          ∷ sw 0x63C1
+          ∷ sw 0x63C0
+          ∷ sw 0x9000
+          ∷ sw 0x9000
+          ∷ sw 0x9000
+          ∷ code PUK 3 false ∷ code PIN1 3 false ∷ code PIN2 3 true ∷ [];
+    }
+    -- the same with P1 00, the new PUK and a new PIN1
+    ∷ record {
+      seen = onSample (
+          wrongPin1
+          ∷ wrongPin1
+          ∷ wrongPin1
+          ∷ changePuk
+          ∷ withBody 0x00 0x2C 0x00 PIN1 (replicate 8 0x35 ++ pin1)
+          ∷ []
+          );
+      expected =
+          sw 0x63C2
+          ∷ sw 0x63C1
+          ∷ sw 0x63C0
+          ∷ sw 0x9000
+          ∷ sw 0x9000
           ∷ fresh;
     }
     -- P3 00 2C 03 01: 6A86

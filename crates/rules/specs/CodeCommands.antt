@@ -1,6 +1,7 @@
 -- Document 01, "Order of judgement for a command", step 7: VERIFY, CHANGE REFERENCE DATA and RESET RETRY COUNTER. They change nothing but
 -- the codes, and answer by a status word alone.
 use Prim.Native.Nat.{ℕ, _+_, _-_}
+use mathlib.Core.Path.{_≡_}
 use mathlib.Core.Bool.{true, false, cond, not}
 use mathlib.Core.List.{List}
 use lib.ListN.{take, drop}
@@ -11,7 +12,8 @@ use Rattle.rules.specs.declared.CodeStep.{CodeStep}
 use Rattle.rules.specs.declared.Header.{Header}
 use Rattle.rules.specs.declared.Verdict.{Verdict}
 use Rattle.rules.specs.declared.Verdict.the-variants.{Right, Wrong, NoTries}
-use Rattle.rules.specs.Codes.{PUK, fullTries, allowed, value, storing, marked, codeOf, withCode, closed}
+use Rattle.rules.specs.Codes.{PUK, fullTries, allowed, value, storing, withValue, marked, codeOf, withCode}
+use Rattle.rules.specs.State.{goodCodes}
 use Rattle.rules.specs.Answers.{codeStatus}
 
 -- A new value not of allowed length or not digits: 6A80. Unblocking a PIN that has tries: 6A86.
@@ -63,24 +65,30 @@ replaced codes k j new stored Right = cond (not (allowed j new)) (codeStatus cod
 replaced codes k j new stored Wrong = judged codes k Wrong
 replaced codes k j new stored NoTries = judged codes k NoTries
 
--- 24 CHANGE. New stored, tries 3, mark off.
+-- 24 CHANGE. New stored, tries 3, mark on (02, wish 4; document 01 has it off).
 unfoldable pub change : List Code → Header → Bytes → CodeStep
 change codes h d =
     let k = h .p2 in
     let new = newValue codes k d in
-    replaced codes k k new (withCode codes k (storing new fullTries false)) (verdict (codeOf codes k) (oldValue codes k d))
+    replaced codes k k new (withCode codes k (storing new fullTries true)) (verdict (codeOf codes k) (oldValue codes k d))
+
+-- What 2C leaves where it is answered 9000, in both forms: the PIN, with its old value or a new one, has tries 3; PUK has the tries that the
+-- form gives it; both marks are off, whatever they were (02, wish 4).
+unfoldable pub unblocked : List Code → ℕ → Code → ℕ → List Code
+unblocked codes pin pinCode pukTries =
+    withCode (withCode codes pin (marked pinCode fullTries false)) PUK (marked (codeOf codes PUK) pukTries false)
 
 -- 2C with P1 03. PUK not verified 6982; else tries 3, PIN and PUK marks off, 9000.
 unfoldable pub unblockByVerifiedPuk : List Code → ℕ → CodeStep
 unblockByVerifiedPuk codes pin =
     cond (not (codeOf codes PUK .verified)) (codeStatus codes 0x6982)
-    (codeStatus (closed (withCode codes pin (marked (codeOf codes pin) fullTries false)) PUK) 0x9000)
+    (codeStatus (unblocked codes pin (codeOf codes pin) (codeOf codes PUK .tries)) 0x9000)
 
 -- 2C with P1 00. PUK judged as the old value in CHANGE; PIN stored, both tries 3, both marks off.
 unfoldable pub unblockByPresentedPuk : List Code → ℕ → Bytes → CodeStep
 unblockByPresentedPuk codes pin d =
     let new = newValue codes PUK d in
-    let stored = withCode (withCode codes pin (storing new fullTries false)) PUK (marked (codeOf codes PUK) fullTries false) in
+    let stored = unblocked codes pin (withValue (codeOf codes pin) new) fullTries in
     replaced codes PUK pin new stored (verdict (codeOf codes PUK) (oldValue codes PUK d))
 
 -- 2C RESET RETRY. PIN has tries: 6A86. P1 03, and P1 00 (the last row).
@@ -90,3 +98,8 @@ resetRetry codes h d =
     cond (not (eqb (codeOf codes pin .tries) 0)) (codeStatus codes swHasTries)
     (cond (eqb (h .p1) 0x03) (unblockByVerifiedPuk codes pin)
     (unblockByPresentedPuk codes pin d))
+
+-- What the contract of RESET RETRY says besides (02, wish 4): on good codes, 9000 leaves the marks of the PIN and of PUK off.
+abbrev pub LeavesClosed : List Code → ℕ → CodeStep → Type 0
+LeavesClosed codes pin o =
+    goodCodes codes ≡ true → o .sw ≡ 0x9000 → (codeOf (o .codes) pin .verified ≡ false) × (codeOf (o .codes) PUK .verified ≡ false)

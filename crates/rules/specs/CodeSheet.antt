@@ -13,13 +13,9 @@ use Rattle.rules.specs.declared.JobKind.the-variants.{Authenticate, Deci
 use Rattle.rules.specs.Numbers.{kindNumber, Returned, edge, responded, handedOut, wasReset}
 use Rattle.rules.specs.Codes.{PUK, PIN1, PIN2, fullTries, value, codeOf}
 use Rattle.rules.specs.Edge.{Result}
-use Rattle.rules.specs.Counting.{Call, Exchange, step, exchangeOf, statusWord, sentBy, readOff, dataSent, okStatus}
-use Rattle.rules.specs.Counting.{returnedKind, wrongStatus, isCommand, queries, changes, unblocks, presentsPuk, answers}
-use Rattle.rules.specs.Counting.{wrongAnswer, restoration, unblocking, rightVerify, handsJob, handsSignature}
-
--- 9000 to a CHANGE of code k.
-abbrev pub changed : ℕ → Exchange → Bool
-changed k = answers okStatus (changes k)
+use Rattle.rules.specs.Counting.{Call, Exchange, step, next, exchangeOf, exchange, statusWord, sentBy, readOff, dataSent, okStatus}
+use Rattle.rules.specs.Counting.{returnedKind, wrongStatus, isCommand, queries, unblocks, presentsPuk, answers}
+use Rattle.rules.specs.Counting.{wrongAnswer, restoration, unblocking, rightVerify, changed, handsJob, handsSignature}
 
 -- 9000 to a 2C, which closes the PIN that P2 names and PUK.
 abbrev pub anyUnblocks : Header → Bool
@@ -39,16 +35,15 @@ resetDone (responded n) = false
 resetDone (handedOut kind key) = false
 resetDone wasReset = true
 
--- Only a right VERIFY opens a code.
+-- A code is opened by a right VERIFY and by a successful CHANGE of it (02, wish 4), by nothing else.
 unfoldable pub opens : ℕ → Exchange → Bool
-opens k e = rightVerify k e
+opens k e = rightVerify k e || changed k e
 
--- A code is closed by a wrong answer to it, by 9000 to a CHANGE of it or to a RESET RETRY of it (PUK: of either PIN),
--- by a signature handed out (PIN2), and by a power reset.
+-- A code is closed by a wrong answer to it, by 9000 to a RESET RETRY of it (PUK: of either PIN), by a signature handed out (PIN2), and by
+-- a power reset.
 unfoldable pub closes : ℕ → Exchange → Bool
 closes k e =
     wrongAnswer k e
-    || changed k e
     || unblocking k e
     || (eqb k PUK && anyUnblocked e)
     || (eqb k PIN2 && handsSignature e)
@@ -146,3 +141,8 @@ pub record CodeSheet : Type 0 where
   pub after : (k : ℕ) → k < 3 → (c : Card) (x : Call) → Sheet k c x (step c x)
   -- what a query is told
   pub asked : (k : ℕ) → k < 3 → (c : Card) (x : Call) → Asked k c x (step c x)
+
+-- 02, wish 4: 9000 to a 2C, P1 00 or 03, leaves the marks of the PIN that P2 names and of PUK off; every card and every call.
+pub record UnblockingCloses : Type 0 where
+  pub pin : (k : ℕ) → k < 3 → (c : Card) (x : Call) → unblocking k (exchange c x) ≡ true → codeOf (next c x .codes) k .verified ≡ false
+  pub puk : (c : Card) (x : Call) → anyUnblocked (exchange c x) ≡ true → codeOf (next c x .codes) PUK .verified ≡ false

@@ -45,6 +45,10 @@ value v = take (v .len) (v .digits)
 abbrev pub storing : Bytes → ℕ → Bool → Code
 storing d tries verified = record { digits = filled most d; len = length d; tries = tries; verified = verified }
 
+-- The same code, with another value.
+abbrev pub withValue : Code → Bytes → Code
+withValue v d = storing d (v .tries) (v .verified)
+
 -- The same value, with other tries left and another verified mark.
 abbrev pub marked : Code → ℕ → Bool → Code
 marked v tries verified = record { digits = v .digits; len = v .len; tries = tries; verified = verified }

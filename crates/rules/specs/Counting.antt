@@ -1,5 +1,6 @@
 -- Document 01, "What demand 3 counts": sequences of calls, and what is counted of the calls' bytes and what they wrote and returned.
--- "Wrong answer", "restoration", "unblocking" and "right presentation" are document 01's terms; "exchange" and "trace" are ours.
+-- "Wrong answer", "restoration", "unblocking" and "right presentation" are document 01's terms, "successful CHANGE" is document 02's;
+-- "exchange" and "trace" are ours.
 use Prim.Native.Nat.{ℕ, zero, suc, _+_, _-_}
 use mathlib.Core.Bool.{Bool, true, false, not, _&&_, _||_}
 use mathlib.Core.List.{List, [], _∷_}
@@ -130,7 +131,7 @@ presents k h = verifies k h || changes k h || (eqb k PUK && presentsPuk h)
 abbrev pub answers : (ℕ → Bool) → (Header → Bool) → Exchange → Bool
 answers status test e = status (statusWord e) && isCommand test (e .call)
 
--- A wrong answer, a restoration and an unblocking of code k; a right presentation of code k by VERIFY.
+-- A wrong answer, a restoration and an unblocking of code k; a right presentation of code k by VERIFY; a successful CHANGE of code k.
 abbrev pub wrongAnswer : ℕ → Exchange → Bool
 wrongAnswer k = answers wrongStatus (presents k)
 
@@ -142,6 +143,9 @@ unblocking k = answers okStatus (unblocks k)
 
 abbrev pub rightVerify : ℕ → Exchange → Bool
 rightVerify k = answers okStatus (verifies k)
+
+abbrev pub changed : ℕ → Exchange → Bool
+changed k = answers okStatus (changes k)
 
 -- A job of a kind that a command returned.
 abbrev pub byCommand : Call → Bool
@@ -176,6 +180,10 @@ unblockings k = number (unblocking k)
 
 abbrev pub pin2Presentations : List Exchange → ℕ
 pin2Presentations = number (rightVerify PIN2)
+
+-- The successful CHANGEs of PIN2, which demand 3's last sentence counts together with its right presentations by VERIFY (02, wish 4).
+abbrev pub pin2Changes : List Exchange → ℕ
+pin2Changes = number (changed PIN2)
 
 abbrev pub signatures : List Exchange → ℕ
 signatures = number handsSignature

@@ -13,14 +13,14 @@ use Rattle.rules.specs.declared.Header.{Header}
 use Rattle.rules.specs.declared.JobKind.the-variants.{Decipher}
 use Rattle.rules.specs.declared.Session.{Session}
 use Rattle.rules.specs.Numbers.{kindNumber, Returned, edge, responded, handedOut, wasReset, refused}
-use Rattle.rules.specs.Codes.{PUK, codeOf}
+use Rattle.rules.specs.Codes.{PUK, PIN2, codeOf}
 use Rattle.rules.specs.Session.{chainBytes, newSession}
 use Rattle.rules.specs.State.{good}
 use Rattle.rules.specs.Apdu.{parse}
 use Rattle.rules.specs.Edge.{refuse}
 use Rattle.rules.specs.Image.{load, zeroCard}
 use Rattle.rules.specs.Counting.{Call, Command, Delivery, PowerReset, step, next, exchange, trace, statusWord}
-use Rattle.rules.specs.Counting.{dataSent, wrongAnswers, restorations, unblockings, signatures, pin2Presentations}
+use Rattle.rules.specs.Counting.{dataSent, wrongAnswers, restorations, unblockings, signatures, pin2Presentations, pin2Changes}
 use Rattle.rules.specs.Counting.{isCommand, queries, ofBytes, allOfBytes, triesAtLoad}
 
 -- The buffer that a call brings.
@@ -143,6 +143,14 @@ pub record Reached (c : Card) (k r u w : ℕ) : Type 0 where
   pub unblocked : unblockings k (trace c calls) ≡ u
   pub wrong : wrongAnswers k (trace c calls) ≡ w
 
+-- Calls of real bytes with v right presentations of PIN2 by VERIFY, n successful CHANGEs of PIN2 and s signatures.
+pub record SignedWith (c : Card) (v n s : ℕ) : Type 0 where
+  pub calls : List Call
+  pub ofBytes : allOfBytes calls ≡ true
+  pub presented : pin2Presentations (trace c calls) ≡ v
+  pub changed : pin2Changes (trace c calls) ≡ n
+  pub signed : signatures (trace c calls) ≡ s
+
 -- Demand 3, of the card that load returned for an image.
 pub record Counted (image : Bytes) (c : Card) : Type 0 where
   -- wrong answers are at most tries at load + 2 times restorations + 3 times unblockings
@@ -151,8 +159,10 @@ pub record Counted (image : Bytes) (c : Card) : Type 0 where
   -- the bound is met, from every loaded card with three tries on each code, for each code by itself
   pub met : ((k : ℕ) → k < 3 → triesAtLoad image k ≡ 3)
       → (k : ℕ) → k < 3 → (r u : ℕ) → (k ≡ PUK → u ≡ 0) → Reached c k r u (3 + 2 * r + 3 * u)
-  -- the signatures handed to the key host are at most the right presentations of PIN2 by VERIFY
-  pub signed : (calls : List Call) → signatures (trace c calls) ≤ pin2Presentations (trace c calls)
+  -- the signatures handed to the key host are at most the right presentations of PIN2 by VERIFY and its successful CHANGEs together
+  pub signed : (calls : List Call) → signatures (trace c calls) ≤ pin2Presentations (trace c calls) + pin2Changes (trace c calls)
+  -- that sum is met, from every loaded card on which PIN2 has a try left, whatever its two parts are; so both are needed
+  pub signedMet : 1 ≤ triesAtLoad image PIN2 → (v n : ℕ) → SignedWith c v n (v + n)
 
 -- A call that leaves all codes as they were and adds nothing to what demand 3 counts, whatever calls follow it.
 pub record Uncounted (c : Card) (x : Call) : Type 0 where
@@ -161,6 +171,7 @@ pub record Uncounted (c : Card) (x : Call) : Type 0 where
   pub restored : (k : ℕ) (calls : List Call) → restorations k (trace c (x ∷ calls)) ≡ restorations k (trace (next c x) calls)
   pub unblocked : (k : ℕ) (calls : List Call) → unblockings k (trace c (x ∷ calls)) ≡ unblockings k (trace (next c x) calls)
   pub presented : (calls : List Call) → pin2Presentations (trace c (x ∷ calls)) ≡ pin2Presentations (trace (next c x) calls)
+  pub changed : (calls : List Call) → pin2Changes (trace c (x ∷ calls)) ≡ pin2Changes (trace (next c x) calls)
   pub signed : (calls : List Call) → signatures (trace c (x ∷ calls)) ≡ signatures (trace (next c x) calls)
 
 -- 02, wish 1: a VERIFY without data is such a call, on every card, whatever else its bytes are.

@@ -1,4 +1,4 @@
-use mathlib.Core.Bool.{false}
+use mathlib.Core.Bool.{true}
 use denote.Ref.{now}
 use Rattle.rules.specs.Codes.{fullTries, withCode}
 use Rattle.rules.specs.CodeCommands.{change, newValue}
@@ -45,7 +45,7 @@ returns c =
       c .before .before .before .before .before .before .code-of .ensures,
       c .before .before .before .before .before .before .before .wide .ensures,
     )
-    (replaced-whole (a .codes) (a .h .p2) (a .h .p2) (newValue (a .codes) (a .h .p2) (now (a .values))) (withCode (a .codes) (a .h .p2)) fullTries false _)
+    (replaced-whole (a .codes) (a .h .p2) (a .h .p2) (newValue (a .codes) (a .h .p2) (now (a .values))) (withCode (a .codes) (a .h .p2)) fullTries true _)
 
 pub change-spec : {M : Type 1} → statement M
 change-spec =

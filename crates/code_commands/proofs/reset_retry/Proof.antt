@@ -1,5 +1,7 @@
+use denote.Ref.{now}
 use borrow.Author.Tests.{eq-eqb, ne-eqb}
 use Rattle.rules.specs.CodeCommands.{resetRetry}
+use Rattle.code_commands.proofs.Laws.{promised}
 use borrow.Author.Needs.{needs}
 use Rattle.code_commands.proofs.reset_retry.Statement.{statement}
 use Rattle.code_commands.proofs.reset_retry.Tie as tie
@@ -15,21 +17,30 @@ code-status-requires c κs = search needs
 
 returns : tie.Need-returns
 unfolding resetRetry
-returns c = simp (← c .before .before .before .before .wide .ensures, ← c .before .before .before .code-of .ensures, ne-eqb _ _ (c .before .if1 .taken)) (c .code-status .ensures)
+returns c =
+    let a = c .before .before .before .before .before .before .args in
+    promised (a .codes) (a .h) (now (a .values)) _
+    (simp (← c .before .before .before .before .wide .ensures, ← c .before .before .before .code-of .ensures, ne-eqb _ _ (c .before .if1 .taken)) (c .code-status .ensures))
 
 unblock-by-verified-puk-requires : tie.Need-unblock-by-verified-puk-requires
 unblock-by-verified-puk-requires c κs = search needs
 
 returns-2 : tie.Need-returns-2
 unfolding resetRetry
-returns-2 c = simp (← c .before .before .before .before .before .before .wide .ensures, ← c .before .before .before .before .before .code-of .ensures, eq-eqb _ _ (c .before .before .before .if1 .left), eq-eqb _ _ (c .before .if2 .taken)) (c .unblock-by-verified-puk .ensures)
+returns-2 c =
+    let a = c .before .before .before .before .before .before .before .before .args in
+    promised (a .codes) (a .h) (now (a .values)) _
+    (simp (← c .before .before .before .before .before .before .wide .ensures, ← c .before .before .before .before .before .code-of .ensures, eq-eqb _ _ (c .before .before .before .if1 .left), eq-eqb _ _ (c .before .if2 .taken)) (c .unblock-by-verified-puk .ensures))
 
 unblock-by-presented-puk-requires : tie.Need-unblock-by-presented-puk-requires
 unblock-by-presented-puk-requires c κs = search needs
 
 returns-3 : tie.Need-returns-3
 unfolding resetRetry
-returns-3 c = simp (← c .before .before .before .before .before .before .wide .ensures, ← c .before .before .before .before .before .code-of .ensures, eq-eqb _ _ (c .before .before .before .if1 .left), ne-eqb _ _ (c .before .if2 .left)) (c .unblock-by-presented-puk .ensures)
+returns-3 c =
+    let a = c .before .before .before .before .before .before .before .before .args in
+    promised (a .codes) (a .h) (now (a .values)) _
+    (simp (← c .before .before .before .before .before .before .wide .ensures, ← c .before .before .before .before .before .code-of .ensures, eq-eqb _ _ (c .before .before .before .if1 .left), ne-eqb _ _ (c .before .if2 .left)) (c .unblock-by-presented-puk .ensures))
 
 pub reset-retry-spec : {M : Type 1} → statement M
 reset-retry-spec =

@@ -1,9 +1,7 @@
-use mathlib.Core.Bool.{false}
-use mathlib.Core.List.{List}
 use denote.Ref.{now}
 use Rattle.rules.specs.declared.Code.{Code}
-use Rattle.rules.specs.Codes.{PUK, fullTries, marked, codeOf, withCode}
-use Rattle.rules.specs.CodeCommands.{unblockByPresentedPuk, newValue}
+use Rattle.rules.specs.Codes.{PUK, fullTries, codeOf}
+use Rattle.rules.specs.CodeCommands.{newValue, unblocked, unblockByPresentedPuk}
 use Rattle.code_commands.proofs.Laws.{replaced-whole}
 use borrow.Author.Needs.{needs}
 use Rattle.code_commands.proofs.unblock_by_presented_puk.Statement.{statement}
@@ -21,17 +19,14 @@ verdict-requires c κs = search needs
 new-value-requires : tie.Need-new-value-requires
 new-value-requires c κs = search needs
 
+code-of-requires-2 : tie.Need-code-of-requires-2
+code-of-requires-2 c κs = search needs
+
 storing-requires : tie.Need-storing-requires
 storing-requires c κs = search needs
 
-with-code-requires : tie.Need-with-code-requires
-with-code-requires c κs = search needs
-
-marked-requires : tie.Need-marked-requires
-marked-requires c κs = search needs
-
-with-code-requires-2 : tie.Need-with-code-requires-2
-with-code-requires-2 c κs = search needs
+unblocked-requires : tie.Need-unblocked-requires
+unblocked-requires c κs = search needs
 
 replaced-requires : tie.Need-replaced-requires
 replaced-requires c κs = search needs
@@ -39,20 +34,19 @@ replaced-requires c κs = search needs
 returns : tie.Need-returns
 unfolding unblockByPresentedPuk
 returns c =
-    let a = c .before .before .before .before .before .before .before .before .before .before .args in
-    let renewed : List Code → List Code = λ l. withCode l PUK (marked (codeOf (a .codes) PUK) fullTries false) in
+    let a = c .before .before .before .before .before .before .before .before .before .args in
+    let blocked : Code = codeOf (a .codes) (a .pin) in
     simp (
       c .replaced .ensures,
-      c .before .with-code2 .ensures,
-      c .before .before .marked .ensures,
-      c .before .before .before .with-code .ensures,
-      c .before .before .before .before .storing .ensures,
-      c .before .before .before .before .before .new-value .ensures,
-      c .before .before .before .before .before .before .verdict .ensures,
-      c .before .before .before .before .before .before .before .old-value .ensures,
-      c .before .before .before .before .before .before .before .before .code-of .ensures,
+      c .before .unblocked .ensures,
+      c .before .before .storing .ensures,
+      c .before .before .before .code-of2 .ensures,
+      c .before .before .before .before .new-value .ensures,
+      c .before .before .before .before .before .verdict .ensures,
+      c .before .before .before .before .before .before .old-value .ensures,
+      c .before .before .before .before .before .before .before .code-of .ensures,
     )
-    (replaced-whole (a .codes) PUK (a .pin) (newValue (a .codes) PUK (now (a .values))) (λ v. renewed (withCode (a .codes) (a .pin) v)) fullTries false _)
+    (replaced-whole (a .codes) PUK (a .pin) (newValue (a .codes) PUK (now (a .values))) (λ v. unblocked (a .codes) (a .pin) v fullTries) (blocked .tries) (blocked .verified) _)
 
 pub unblock-by-presented-puk-spec : {M : Type 1} → statement M
 unblock-by-presented-puk-spec =
@@ -62,9 +56,8 @@ unblock-by-presented-puk-spec =
     old-value-requires
     verdict-requires
     new-value-requires
+    code-of-requires-2
     storing-requires
-    with-code-requires
-    marked-requires
-    with-code-requires-2
+    unblocked-requires
     replaced-requires
     returns)

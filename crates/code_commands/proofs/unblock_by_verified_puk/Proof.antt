@@ -16,21 +16,15 @@ returns c = simp (← c .before .before .before .code-of .ensures, c .before .if
 code-of-requires-2 : tie.Need-code-of-requires-2
 code-of-requires-2 c κs = search needs
 
-marked-requires : tie.Need-marked-requires
-marked-requires c κs = search needs
-
-with-code-requires : tie.Need-with-code-requires
-with-code-requires c κs = search needs
-
-closed-requires : tie.Need-closed-requires
-closed-requires c κs = search needs
+unblocked-requires : tie.Need-unblocked-requires
+unblocked-requires c κs = search needs
 
 code-status-requires-2 : tie.Need-code-status-requires-2
 code-status-requires-2 c κs = search needs
 
 returns-2 : tie.Need-returns-2
 unfolding unblockByVerifiedPuk
-returns-2 c = simp (c .code-status2 .ensures, c .before .closed .ensures, c .before .before .with-code .ensures, c .before .before .before .marked .ensures, c .before .before .before .before .code-of2 .ensures, ← c .before .before .before .before .before .before .before .code-of .ensures, c .before .before .before .before .before .if1 .left)
+returns-2 c = simp (c .code-status2 .ensures, c .before .unblocked .ensures, c .before .before .code-of2 .ensures, ← c .before .before .before .before .before .code-of .ensures, c .before .before .before .if1 .left)
 
 pub unblock-by-verified-puk-spec : {M : Type 1} → statement M
 unblock-by-verified-puk-spec =
@@ -40,8 +34,6 @@ unblock-by-verified-puk-spec =
     code-status-requires
     returns
     code-of-requires-2
-    marked-requires
-    with-code-requires
-    closed-requires
+    unblocked-requires
     code-status-requires-2
     returns-2)

@@ -151,7 +151,7 @@ returns-6 c = simp (c .before .before .enum-told6 .given .1, c .in-codes2 .ensur
 
 returns-7 : tie.Need-returns-7
 unfolding ownRules
-returns-7 c = simp (c .before .before .enum-told7 .given .1, c .in-codes3 .ensures, c .before .reset-retry .ensures, c .before .before .before .before .drop-both .ensures)
+returns-7 c = simp (c .before .before .enum-told7 .given .1, c .in-codes3 .ensures, c .before .reset-retry .ensures .0, c .before .before .before .before .drop-both .ensures)
 
 returns-8 : tie.Need-returns-8
 unfolding ownRules
