@@ -1,5 +1,6 @@
 //! The calls at the edge, and each command's own rules (step 7).
 
+use crate::digests::is_digest;
 use crate::padding;
 use crate::request::{self, Request};
 use crate::state::*;
@@ -386,25 +387,4 @@ fn padded(data: &[u8]) -> [u8; padding::BLOCK] {
     let mut block = [0; padding::BLOCK];
     padding::pad(data, &mut block);
     block
-}
-
-/// The heads of the five digests, each with the length of the hash.
-pub fn digest_heads() -> [(Vec<u8>, usize); 5] {
-    let sha1 = vec![0x30, 0x21, 0x30, 0x09, 0x06, 0x05, 0x2B, 0x0E, 0x03, 0x02, 0x1A, 0x05, 0x00, 0x04, 0x14];
-    let sha2 = |l: u8, a: u8, h: u8| {
-        let mut head = vec![0x30, l, 0x30, 0x0D, 0x06, 0x09, 0x60, 0x86, 0x48, 0x01, 0x65, 0x03, 0x04, 0x02];
-        head.extend([a, 0x05, 0x00, 0x04, h]);
-        (head, h as usize)
-    };
-    [
-        (sha1, 20),
-        sha2(0x2D, 0x04, 0x1C),
-        sha2(0x31, 0x01, 0x20),
-        sha2(0x41, 0x02, 0x30),
-        sha2(0x51, 0x03, 0x40),
-    ]
-}
-
-pub fn is_digest(data: &[u8]) -> bool {
-    digest_heads().iter().any(|(head, hash)| data.starts_with(head) && data.len() == head.len() + hash)
 }

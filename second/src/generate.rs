@@ -1,8 +1,8 @@
 //! A generator of lines. It plays each line on a session of its own, so that it
 //! knows the present codes, the waiting job and the held answer.
 
-use crate::card::digest_heads;
 use crate::generate_changing::first_case;
+use crate::generate_digests::first_near_digest;
 use crate::state::{shortest_code, DECIPHER, LONGEST_CODE, PIN1, PIN2, PUK};
 use crate::{hex, padding, CardState};
 use std::collections::VecDeque;
@@ -73,12 +73,21 @@ pub struct Generator<S> {
     pub(crate) made: usize,
     /// Goes through the cases of `generate_changing`.
     pub(crate) next_case: usize,
+    /// Goes through the cases of `generate_digests`.
+    pub(crate) next_near_digest: usize,
     pending: VecDeque<Vec<u8>>,
 }
 
 impl<S: Played> Generator<S> {
     pub(crate) fn on(session: S, seed: u64) -> Self {
-        Generator { random: Random(seed), session, made: 0, next_case: first_case(seed), pending: VecDeque::new() }
+        Generator {
+            random: Random(seed),
+            session,
+            made: 0,
+            next_case: first_case(seed),
+            next_near_digest: first_near_digest(seed),
+            pending: VecDeque::new(),
+        }
     }
 
     pub(crate) fn line(&mut self, line: Vec<u8>) {
@@ -396,18 +405,13 @@ impl<S: Played> Generator<S> {
         self.sign_digest();
     }
 
-    /// The command alone, perhaps twice, and a result.
+    /// The command alone, perhaps with data that comes near a digest before it, perhaps twice, and a
+    /// result.
     pub(crate) fn sign_digest(&mut self) {
-        let (mut digest, hash) = self.random.pick(&digest_heads());
-        digest.extend(self.random.bytes(hash));
         if self.random.percent(25) {
-            match self.random.below(4) {
-                0 => digest.truncate(self.random.between(1, digest.len() - 1)),
-                1 => digest.push(0),
-                2 => digest = self.random.bytes(20),
-                _ => digest[self.random.below(15)] ^= 1 << self.random.below(8),
-            }
+            self.sign_near_digests();
         }
+        let digest = if self.random.percent(15) { self.spoilt_digest() } else { self.digest() };
         let le = self.maybe_le();
         self.send(0x00, 0x2A, 0x9E, 0x9A, &digest, le);
         if self.session.card().job.is_none() || self.random.percent(85) {

@@ -2,7 +2,6 @@
 //! asked about, then comes the command, then a look at the marks, by a query or by what an open code
 //! permits. The lines of a case are not damaged, and no others come between them.
 
-use crate::card::digest_heads;
 use crate::generate::{Generator, Played};
 use crate::state::{MAX_TRIES, PIN1, PIN2, PUK};
 
@@ -212,8 +211,7 @@ impl<S: Played> Generator<S> {
                 self.send_alone([0x00, 0x2A, 0x80, 0x86], &vec![0; 257 - first], Some(0));
             }
             Look::Sign => {
-                let (mut digest, hash) = self.random.pick(&digest_heads());
-                digest.extend(self.random.bytes(hash));
+                let digest = self.digest();
                 self.send_alone([0x00, 0x2A, 0x9E, 0x9A], &digest, Some(0));
             }
         }

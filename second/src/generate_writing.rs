@@ -1,7 +1,6 @@
 //! The line `I` in the generator of stand-in lines: with buffers around the size that the writer
 //! needs, and with the image loaded again.
 
-use crate::card::digest_heads;
 use crate::generate::Generator;
 use crate::generate_stand_in::{PlayedStandIn, SMALLEST_BUFFER};
 use crate::images::Parts;
@@ -202,8 +201,7 @@ impl Generator<PlayedStandIn> {
 
     /// With the codes as they are stored, and no environment or choice made since load.
     fn use_active_keys(&mut self) {
-        let (mut digest, hash) = self.random.pick(&digest_heads());
-        digest.extend(self.random.bytes(hash));
+        let digest = self.digest();
         for code in 0..3 {
             let value = self.stored(code);
             self.call(b'C', &[&[0x00, 0x20, 0x00, code as u8, value.len() as u8], &value[..]].concat());

@@ -85,7 +85,7 @@ fn key_operation(line: &[u8]) -> Option<&'static str> {
 }
 
 /// Of a response the status word, of a job the kind.
-fn word(answer: &str) -> &str {
+pub(crate) fn word(answer: &str) -> &str {
     match answer.as_bytes() {
         [b'R', .., _, _, _, _] => &answer[answer.len() - 4..],
         [b'J', _, ..] => &answer[..2],

@@ -1,23 +1,21 @@
 -- Document 01, "Order of judgement for a command", step 7: SIGN with its digests, and DECIPHER with its chain.
-use Prim.Native.Nat.{ℕ, suc, _+_, _-_}
+use Prim.Native.Nat.{ℕ, suc, _-_}
 use mathlib.Core.Path.{_≡_}
-use mathlib.Core.Bool.{true, false}
+use mathlib.Core.Bool.{true, false, not}
 use mathlib.Core.List.{List, [], _∷_, _++_, map}
 use lib.ListN.{length, replicate}
+use lib.Dec.{eqb}
 use Rattle.octets.specs.Octets.{Bytes}
 use Rattle.rules.specs.declared.Card.{Card}
+use Rattle.rules.specs.Digests.{Form, forms}
 use Rattle.rules.specs.Counting.{Call}
 use Rattle.rules.specs.Sample.{sampleCard}
 use Rattle.rules.specs.Cases.{shows, hands, deliverTo, withBody, signSha1, decipherPart, sw, fresh}
 use Rattle.cases.specs.Turns.{Run, _⇒_, from, Shown, marks, sending, sendingWithLe, block, sampleMarks}
-use Rattle.cases.specs.Turns.{inEnvironment, chained, wordOn}
+use Rattle.cases.specs.Turns.{secondOpen, inEnvironment, chained, wordOn, counted, sieved, bytes}
 
--- The five prefixes and how many bytes follow each.
-pub record Digest : Type 0 where
-  pub prefix : Bytes
-  pub count : ℕ
-
-abbrev pub sha1 : Digest
+-- The five digests, a prefix and how many bytes follow it, written out from document 01 and not taken from the rules.
+abbrev pub sha1 : Form
 sha1 =
     record {
       prefix =
@@ -25,7 +23,7 @@ sha1 =
       count = 20;
     }
 
-abbrev pub sha2 : ℕ → ℕ → ℕ → Digest
+abbrev pub sha2 : ℕ → ℕ → ℕ → Form
 sha2 l a h =
     record {
       prefix =
@@ -34,11 +32,15 @@ sha2 l a h =
       count = h;
     }
 
-abbrev pub digests : List Digest
+abbrev pub digests : List Form
 digests = sha1 ∷ sha2 0x2D 0x04 0x1C ∷ sha2 0x31 0x01 0x20 ∷ sha2 0x41 0x02 0x30 ∷ sha2 0x51 0x03 0x40 ∷ []
 
+-- The rules have these five and no other.
+abbrev pub FormsListed : Type 0
+FormsListed = forms ≡ digests
+
 -- A digest with n bytes behind its prefix.
-abbrev pub followed : Digest → ℕ → Bytes
+abbrev pub followed : Form → ℕ → Bytes
 followed x n = x .prefix ++ replicate n 0x07
 
 abbrev pub signing : Bytes → Call
@@ -46,7 +48,7 @@ signing d = sending 0x2A 0x9E 0x9A d
 
 -- SIGN of a whole digest hands it out, with PIN2 verified and in environment 1; all codes were verified, PIN2's mark
 -- goes off.
-abbrev pub signCase : Digest → Run
+abbrev pub signCase : Form → Run
 signCase x =
     record {
       card = sampleMarks true true true;
@@ -59,25 +61,117 @@ abbrev pub raised : Bytes → List Bytes
 raised [] = []
 raised (x ∷ xs) = (suc x ∷ xs) ∷ map (λ ys. x ∷ ys) (raised xs)
 
--- What comes near a digest: one byte too few or too many, and a prefix with one byte raised.
-abbrev pub near : Digest → List Bytes
+-- What comes near a digest: its prefix with any other number of bytes, and a prefix with one byte raised.
+abbrev pub near : Form → List Bytes
 near x =
-    followed x (x .count + 1)
-    ∷ followed x (x .count - 1)
-    ∷ map (λ p. p ++ replicate (x .count) 0x07) (raised (x .prefix))
+    map (followed x) (sieved (λ n. not (eqb n (x .count))) (counted (256 - length (x .prefix)) 0))
+    ++ map (λ p. p ++ replicate (x .count) 0x07) (raised (x .prefix))
 
-abbrev pub joined : List (List Bytes) → List Bytes
+abbrev pub joined : {A : Type 0} → List (List A) → List A
 joined [] = []
 joined (x ∷ xs) = x ++ joined xs
 
--- The status words of SIGN for them, with all codes verified; also for data that is no digest at all.
+-- What is not in the list: MD5; RIPEMD-160, which has the lengths of SHA-1; SHA-256 without the parameters 05 00, and with a
+-- length of two bytes; SHA-512/224, SHA-512/256 and the four of SHA3, which have the SHA-2 form with another A.
+abbrev pub md5 : Form
+md5 =
+    record {
+      prefix =
+          0x30 ∷ 0x20 ∷ 0x30 ∷ 0x0C ∷ 0x06 ∷ 0x08 ∷ 0x2A ∷ 0x86 ∷ 0x48 ∷ 0x86 ∷ 0xF7 ∷ 0x0D ∷ 0x02 ∷ 0x05
+          ∷ 0x05 ∷ 0x00 ∷ 0x04 ∷ 0x10 ∷ [];
+      count = 16;
+    }
+
+abbrev pub ripemd160 : Form
+ripemd160 =
+    record {
+      prefix =
+          0x30 ∷ 0x21 ∷ 0x30 ∷ 0x09 ∷ 0x06 ∷ 0x05 ∷ 0x2B ∷ 0x24 ∷ 0x03 ∷ 0x02 ∷ 0x01 ∷ 0x05 ∷ 0x00 ∷ 0x04 ∷ 0x14 ∷ [];
+      count = 20;
+    }
+
+abbrev pub withoutParameters : Form
+withoutParameters =
+    record {
+      prefix =
+          0x30 ∷ 0x2F ∷ 0x30 ∷ 0x0B ∷ 0x06 ∷ 0x09 ∷ 0x60 ∷ 0x86 ∷ 0x48 ∷ 0x01 ∷ 0x65 ∷ 0x03 ∷ 0x04 ∷ 0x02 ∷ 0x01
+          ∷ 0x04 ∷ 0x20 ∷ [];
+      count = 32;
+    }
+
+abbrev pub withLongLength : Form
+withLongLength =
+    record {
+      prefix =
+          0x30 ∷ 0x81 ∷ 0x31 ∷ 0x30 ∷ 0x0D ∷ 0x06 ∷ 0x09 ∷ 0x60 ∷ 0x86 ∷ 0x48 ∷ 0x01 ∷ 0x65 ∷ 0x03 ∷ 0x04 ∷ 0x02 ∷ 0x01
+          ∷ 0x05 ∷ 0x00 ∷ 0x04 ∷ 0x20 ∷ [];
+      count = 32;
+    }
+
+abbrev pub unlisted : List Form
+unlisted =
+    md5
+    ∷ ripemd160
+    ∷ withoutParameters
+    ∷ withLongLength
+    ∷ sha2 0x2D 0x05 0x1C
+    ∷ sha2 0x31 0x06 0x20
+    ∷ sha2 0x2D 0x07 0x1C
+    ∷ sha2 0x31 0x08 0x20
+    ∷ sha2 0x41 0x09 0x30
+    ∷ sha2 0x51 0x0A 0x40
+    ∷ []
+
+-- The status word of SIGN of some data; 0 for a job.
+abbrev pub signWord : Card → Bytes → ℕ
+signWord c d = wordOn c (0x00 ∷ 0x2A ∷ 0x9E ∷ 0x9A ∷ length d ∷ d)
+
+-- The status words of SIGN for the bytes 07 and 30, each 1 to 255 times, for what is not in the list and for what comes
+-- near a digest, with all codes verified.
 unfoldable pub spoilt : List ℕ
 spoilt =
-    map (λ d. wordOn (sampleMarks true true true) (0x00 ∷ 0x2A ∷ 0x9E ∷ 0x9A ∷ length d ∷ d))
-    ((0x30 ∷ []) ∷ replicate 35 0x07 ∷ replicate 255 0x30 ∷ joined (map near digests))
+    map (signWord (sampleMarks true true true))
+    (map (λ n. replicate n 0x07) (counted 255 1)
+    ++ map (λ n. replicate n 0x30) (counted 255 1)
+    ++ map (λ x. followed x (x .count)) unlisted
+    ++ joined (map near digests))
 
 abbrev pub SpoiltDigests : Type 0
-SpoiltDigests = spoilt ≡ replicate (length spoilt) 0x6A80
+SpoiltDigests = spoilt ≡ replicate 1795 0x6A80
+
+-- SIGN of each digest, its hash each byte again and again, on the second card with all codes verified: the bytes of the
+-- hash are not looked at, and each is a job.
+unfoldable pub hashes : List ℕ
+hashes =
+    joined (map (λ x. map (λ b. signWord secondOpen (x .prefix ++ replicate (x .count) b)) bytes) digests)
+
+abbrev pub AnyHash : Type 0
+AnyHash = hashes ≡ replicate 1280 0
+
+-- The status words of SIGN for the SHA-2 form with each L and each H of the four rows and each byte A, H bytes
+-- behind it, on the second card with all codes verified.
+unfoldable pub mixed : List ℕ
+mixed =
+    map (λ x. signWord secondOpen (followed x (x .count)))
+    (joined
+    (map (λ l. joined (map (λ h. map (λ a. sha2 l a h) bytes) (0x1C ∷ 0x20 ∷ 0x30 ∷ 0x40 ∷ [])))
+    (0x2D ∷ 0x31 ∷ 0x41 ∷ 0x51 ∷ [])))
+
+-- The words for the 256 bytes A: all 6A80; all but one, which is a job.
+abbrev pub allRefused : List ℕ
+allRefused = replicate 256 0x6A80
+
+abbrev pub allRefusedBut : ℕ → List ℕ
+allRefusedBut a = replicate a 0x6A80 ++ 0 ∷ replicate (255 - a) 0x6A80
+
+-- (L, A, H) = (2D, 04, 1C), (31, 01, 20), (41, 02, 30), (51, 03, 40), and no other of these.
+abbrev pub MixedRows : Type 0
+MixedRows =
+    mixed
+    ≡ allRefusedBut 0x04 ++ allRefused ++ allRefused ++ allRefused
+    ++ allRefused ++ allRefusedBut 0x01 ++ allRefused ++ allRefused
+    ++ allRefused ++ allRefused ++ allRefusedBut 0x02 ++ allRefused
+    ++ allRefused ++ allRefused ++ allRefused ++ allRefusedBut 0x03
 
 -- 2A 80 86 of class 00h, with a body.
 abbrev pub deciphering : Bytes → Call

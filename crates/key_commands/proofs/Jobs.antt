@@ -10,7 +10,7 @@ use borrow.Author.Tests.{eq-eqb, ne-eqb, not-false}
 use Rattle.octets.specs.Octets.{Bytes}
 use Rattle.pkcs1.specs.Pkcs1.{padded, pad}
 use Rattle.pkcs1.proofs.Laws.{pad-writes}
-use Rattle.digests.proofs.Lengths.{digest-short}
+use Rattle.rules.proofs.Digests.{digest-forms}
 use Rattle.rules.specs.declared.Code.{Code}
 use Rattle.rules.specs.declared.Session.{Session}
 use Rattle.rules.specs.declared.Header.{Header}
@@ -45,7 +45,7 @@ module _ (codes : List Code) (references : Bytes) (s : Session) (h : Header) (d 
 
 -- A digest of the list can be padded.
 pub digest-fits : (d : Bytes) {digest : Bool} → digest ≡ isDigest d → not digest ≡ false → length d ≤ 245
-digest-fits d i t = omega (arith, digest-short d (sym i ∙ not-false _ t))
+digest-fits d i t = digest-forms .short d (sym i ∙ not-false _ t)
 
 module _ (codes : List Code) (references : Bytes) (s : Session) (h : Header) (d : Bytes) {digest : Bool} (i : digest ≡ isDigest d) where
   pub no-digest : not digest ≡ true → status codes s 0x6A80 ≡ sign codes references s h d

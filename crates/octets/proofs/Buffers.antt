@@ -1,6 +1,6 @@
--- Laws of places in a string or a list, and of one of two tests.
+-- Laws of places in a string or a list.
 use mathlib.Core.Path.{_≡_, refl, ap}
-use mathlib.Core.Bool.{Bool, true, _||_}
+use mathlib.Core.Bool.{true}
 use mathlib.Core.List.{List, [], _∷_}
 use Prim.Native.Nat.{ℕ, zero, suc, _≤_, _<_}
 use native.Mathlib.Nat.{not-suc-le-zero, le-of-suc-le-suc}
@@ -10,7 +10,7 @@ use lib.ListN.{length, getD, set}
 use lib.Seq.{getD-set-same, getD-set-other}
 use borrow.Author.Tests.{ltb-true, lt-ltb}
 use Rattle.octets.specs.Octets.{Bytes, byteAt, allBytes}
-use Rattle.octets.proofs.Tests.{either, or-cases, and-left, and-right}
+use Rattle.octets.proofs.Tests.{either, and-left, and-right}
 
 -- A byte of a string of bytes, or the 0 past its end.
 pub byte-below : (b : Bytes) (i : ℕ) → allBytes b ≡ true → byteAt b i < 256
@@ -22,10 +22,6 @@ byte-below (x ∷ xs) (suc i) e = byte-below xs i (and-right (ltb x 256) (allByt
 pub all-bytes : (b : Bytes) → ((i : ℕ) → byteAt b i < 256) → allBytes b ≡ true
 all-bytes [] h = refl
 all-bytes (x ∷ xs) h = rw (lt-ltb x 256 (h 0)) (all-bytes xs (λ i. h (suc i)))
-
--- What follows from each of two tests follows from one of them.
-pub from-either : {P : Type 0} {s t : Bool} → (s ≡ true → P) → (t ≡ true → P) → (s || t) ≡ true → P
-from-either {P} {s} {t} h g e = or-cases P s t e h g
 
 -- After the element in place j was replaced: what holds of the new one, and of the old one in place i, holds of the one in place i.
 pub each-place : {A : Type 0} (P : ℕ → A → Type 0) (l : List A) (j : ℕ) (v d : A) → j < length l → P j v

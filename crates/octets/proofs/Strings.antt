@@ -1,12 +1,12 @@
 -- Laws of strings of bytes.
-use mathlib.Core.Path.{_≡_, refl, ap}
+use mathlib.Core.Path.{_≡_, refl, sym, ap}
 use mathlib.Core.Bool.{Bool, true, false≢true}
 use mathlib.Core.List.{[], _∷_, _++_}
 use Prim.Native.Nat.{ℕ, zero, suc, _-_, _≤_}
 use native.Mathlib.Omega.{arith}
 use lib.Dec.{eqb}
 use lib.ListN.{length, take, drop, replicate, length-append, length-replicate, length-take, length-drop}
-use lib.Seq.{take-append-seam, drop-append-seam, take-all}
+use lib.Seq.{take-append-seam, drop-append-seam, take-all, take-nil}
 use borrow.Author.Tests.{eq-eqb, eqb-true}
 use Rattle.octets.specs.Octets.{Bytes, same, all, allZero, blank, filled}
 use Rattle.octets.proofs.Tests.{and-left, and-right}
@@ -67,3 +67,10 @@ take-rest b at = take-all (length b) (drop at b) (omega (arith, length-drop at b
 -- What was taken once.
 pub take-twice : (n : ℕ) (b : Bytes) → take n (take n b) ≡ take n b
 take-twice n b = take-all n (take n b) (omega (arith, length-take n b))
+
+-- The shorter of two beginnings, taken either way round.
+pub take-swap : (m n : ℕ) (b : Bytes) → take m (take n b) ≡ take n (take m b)
+take-swap zero n b = sym (take-nil n)
+take-swap (suc m) zero b = refl
+take-swap (suc m) (suc n) [] = refl
+take-swap (suc m) (suc n) (x ∷ b) = ap (λ (l : Bytes). x ∷ l) (take-swap m n b)

@@ -29,6 +29,11 @@ abbrev pub every : List Bool → Bool
 every [] = true
 every (t ∷ ts) = t && every ts
 
+-- Whether one test of a list or more is true.
+abbrev pub any : List Bool → Bool
+any [] = false
+any (t ∷ ts) = t || any ts
+
 -- Whether every byte passes a test.
 abbrev pub all : (ℕ → Bool) → Bytes → Bool
 all t [] = true

@@ -14,7 +14,7 @@ use Rattle.rules.specs.Answers.{moreBytes, give}
 use Rattle.rules.specs.FileCommands.{select, readRecord, readStatus, readBinary, getResponse}
 use Rattle.rules.specs.CodeCommands.{verdict, judged, queried, verify, replaced, change}
 use Rattle.rules.specs.CodeCommands.{unblocked, unblockByVerifiedPuk, unblockByPresentedPuk, resetRetry}
-use Rattle.rules.specs.Digests.{prefixed, sha2, isDigest}
+use Rattle.rules.specs.Digests.{prefixed, isDigest}
 use Rattle.rules.specs.KeyCommands.{setEnvironment, kindChosen, chooseKey, internalAuthenticate, sign, decipher}
 use Rattle.rules.specs.Judgement.{instruction, parameters, lengths, ownRules, knownInstruction, namedIn}
 use Rattle.rules.specs.Judgement.{judgeNamed, judgeHeader, judgeForm, judge}
@@ -30,7 +30,7 @@ use Rattle.rules.specs.Sample.{sampleCard, sampleImage, SampleLoads}
 use Rattle.rules.specs.Cases.{onCard, padding, cases, PCases, writings, WritingsShown}
 
 pub p-cases : PCases
-unfolding cases onCard padding sampleCard step command delivery powerReset written responseIn returnedStatus good goodCodes goodProfile goodSession goodCode goodRoom goodReferences goodRecords goodSelection goodEnvironment goodJob filesIn present ofClass activeKey keyFor newSession blank filled least allowed parse judge judgeForm judgeHeader knownInstruction instruction namedIn parameters judgeNamed lengths ownRules verify change resetRetry unblocked unblockByVerifiedPuk unblockByPresentedPuk verdict judged queried replaced select readRecord readStatus readBinary getResponse give moreBytes recordCount recordOf counterRecord pinRecord pukRecord certificateOf setEnvironment kindChosen chooseKey internalAuthenticate sign decipher isDigest prefixed sha2 padded cannotPad pad deliver strip enciphered beforeZero personalRecord
+unfolding cases onCard padding sampleCard step command delivery powerReset written responseIn returnedStatus good goodCodes goodProfile goodSession goodCode goodRoom goodReferences goodRecords goodSelection goodEnvironment goodJob filesIn present ofClass activeKey keyFor newSession blank filled least allowed parse judge judgeForm judgeHeader knownInstruction instruction namedIn parameters judgeNamed lengths ownRules verify change resetRetry unblocked unblockByVerifiedPuk unblockByPresentedPuk verdict judged queried replaced select readRecord readStatus readBinary getResponse give moreBytes recordCount recordOf counterRecord pinRecord pukRecord certificateOf setEnvironment kindChosen chooseKey internalAuthenticate sign decipher isDigest prefixed padded cannotPad pad deliver strip enciphered beforeZero personalRecord
 p-cases = refl
 
 pub writings-shown : WritingsShown

@@ -2,14 +2,13 @@
 use mathlib.Core.Path.{_≡_, refl}
 use mathlib.Core.Bool.{Bool, true, _||_, or-true}
 use mathlib.Core.List.{List, [], _++_}
-use Prim.Native.Nat.{ℕ, _+_, _≤_}
+use Prim.Native.Nat.{ℕ, _≤_}
 use native.Mathlib.Omega.{arith}
-use lib.Dec.{eqb, leb}
-use lib.ListN.{length, take, drop, length-drop}
-use borrow.Author.Tests.{eqb-true, leb-true, ne-eqb}
-use Rattle.octets.specs.Octets.{Bytes, same}
-use Rattle.octets.proofs.Tests.{split, and-right}
-use Rattle.octets.proofs.Buffers.{from-either}
+use lib.Dec.{eqb}
+use lib.ListN.{length, drop, length-drop}
+use borrow.Author.Tests.{ne-eqb}
+use Rattle.octets.specs.Octets.{Bytes}
+use Rattle.octets.proofs.Tests.{split}
 use Rattle.pkcs1.specs.Pkcs1.{padded}
 use Rattle.pkcs1.proofs.Laws.{padded-length}
 use Rattle.rules.specs.declared.Code.{Code}
@@ -20,10 +19,10 @@ use Rattle.rules.specs.Keys.{usable}
 use Rattle.rules.specs.Codes.{PIN2}
 use Rattle.rules.specs.Session.{allActive, noJob, chainBytes, withJob, dropChain}
 use Rattle.rules.specs.State.{goodCodes, goodReferences, goodEnvironment, goodSession}
-use Rattle.rules.specs.Digests.{prefixed, sha1Prefix, sha2Prefix, sha2, isDigest}
 use Rattle.rules.specs.KeyCommands.{setEnvironment, kindChosen, choosing, chooseKey, internalAuthenticate, sign}
 use Rattle.rules.specs.KeyCommands.{decipher}
 use Rattle.rules.specs.Delivery.{deliver}
+use Rattle.rules.proofs.Digests.{digest-forms}
 use Rattle.rules.proofs.Walks.{setEnvironment-walk, chooseKey-walk, authenticate-walk, sign-walk, decipher-walk}
 use Rattle.rules.proofs.Walks.{deliver-walk}
 use Rattle.rules.proofs.Sessions.{choice-changed, environment-replaced, chain-replaced, job-ended}
@@ -61,22 +60,6 @@ deliver-keeps keys s g result =
     (ok-keeps ended)
     (λ whole n. give-keeps nothingMore keys _ ended (s .job .le) (drop n result) refl (simp length-drop (omega arith)))
 
--- A digest of the list is short enough to pad.
-prefixed-short : (d prefix : Bytes) (n : ℕ) → leb (length prefix + n) 253 ≡ true → prefixed prefix n d ≡ true → length d ≤ 253
-unfolding prefixed
-prefixed-short d prefix n short e =
-    omega (arith, leb-true (length prefix + n) 253 short, eqb-true (length d) (length prefix + n) (and-right (same (take (length prefix) d) prefix) _ e))
-
-digest-short : (d : Bytes) → isDigest d ≡ true → length d ≤ 253
-unfolding isDigest sha2
-digest-short d =
-    from-either (from-either (from-either (from-either
-    (prefixed-short d sha1Prefix 20 refl)
-    (prefixed-short d (sha2Prefix 0x2D 0x04 0x1C) 0x1C refl))
-    (prefixed-short d (sha2Prefix 0x31 0x01 0x20) 0x20 refl))
-    (prefixed-short d (sha2Prefix 0x41 0x02 0x30) 0x30 refl))
-    (prefixed-short d (sha2Prefix 0x51 0x03 0x40) 0x40 refl)
-
 -- Commands that hand out a job: Le is at most 256, and nothing is held. The card was in session t before something of it was dropped.
 module _ (E : Bytes → Type 0) (t : Session) (codes : List Code) (keys : List Bool) (references : Bytes) (r : goodReferences keys references ≡ true)
     (s : Session) (g : goodSession keys s ≡ true) (h : Header) (d : Bytes) (le : h .le ≤ 256) (held : s .held .len ≡ 0) where
@@ -95,7 +78,7 @@ module _ (E : Bytes → Type 0) (t : Session) (codes : List Code) (keys : List B
       sign-walk (KeepsBoth (commandMayGive E t d) keys) codes references s h d
       (λ sw z. let kept = refusal-keeps {m = commandMayGive E t d} g sw z in record { codes = gc; session = kept .session; answer = kept .answer })
       (λ digest _.
-      let own : OwnJob t d 2 (padded d) = padded-job 2 (omega arith) (omega arith) (digest-short d digest) in
+      let own : OwnJob t d 2 (padded d) = padded-job 2 (omega arith) (omega arith) (omega (arith, digest-forms .short d digest)) in
       let job = handOut-keeps {m = commandMayGive E t d} keys references s r g held chain Sign (h .le) (padded d) le own in
       record { codes = closed-good codes gc PIN2 (omega arith); session = job .session; answer = job .answer })
 

@@ -4,6 +4,7 @@ pub mod Parts
 pub mod StatusWords
 pub mod Walks
 pub mod Sessions
+pub mod Digests
 pub mod Forms
 pub mod KeepingAnswers
 pub mod KeepingFiles

@@ -1,6 +1,6 @@
 use native.Mathlib.Omega.{arith}
 use denote.Ref.{now}
-use Rattle.digests.proofs.Forms.{wrong-length, right-length}
+use Rattle.digests.proofs.Prefixes.{wrong-length, right-length}
 use borrow.Author.Needs.{needs}
 use Rattle.digests.proofs.prefixed.Statement.{statement}
 use Rattle.digests.proofs.prefixed.Tie as tie

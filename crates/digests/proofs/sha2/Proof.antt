@@ -1,5 +1,4 @@
 use mathlib.Core.Path.{_∙_}
-use Rattle.rules.specs.Digests.{sha2}
 use borrow.Author.Needs.{needs}
 use Rattle.digests.proofs.sha2.Statement.{statement}
 use Rattle.digests.proofs.sha2.Tie as tie
@@ -14,7 +13,6 @@ prefixed-requires : tie.Need-prefixed-requires
 prefixed-requires c κs = search needs
 
 returns : tie.Need-returns
-unfolding sha2
 returns c = c .prefixed .ensures ∙ simp (c .before .wide .ensures)
 
 pub sha2-spec : {M : Type 1} → statement M
