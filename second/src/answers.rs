@@ -20,7 +20,12 @@ const DATA_LENGTHS: [(usize, usize); 15] = [
 ];
 
 /// How many bytes an image has.
-const IMAGE_LENGTHS: [(usize, usize); 3] = [(84, 84), (85, 1114), (1115, 1115)];
+const IMAGE_LENGTHS: [(usize, usize); 4] = [
+    (84, 84),
+    (85, 1114),
+    (1115, 1117), // 1,115 is the longest without its last section
+    (1118, 1118),
+];
 
 const LETTERS: &[u8; 8] = b"PCDLASBI";
 
@@ -31,7 +36,7 @@ pub fn wanted() -> Vec<String> {
         ("C", "9000 61xx 6282 63C0 63C1 63C2 63C3 6700 6884 6981 6982 6983 6985 6986 6A80 6A82 6A83 6A86 6A88 6B00 6D00 6E00"),
         ("C", "H1 H2 H3 H4 ?"),
         ("D", "9000 6100 61xx 6400 6A80 H1 H2 H5 ?"),
-        ("L", "L F21 F22 F23 F24 F25 F26 F27 ?"),
+        ("L", "L F21 F22 F23 F24 F25 F26 F27 F28 ?"),
         ("A", "A ?"),
         ("S", "S ?"),
         ("B", "B ?"),

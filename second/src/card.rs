@@ -293,9 +293,11 @@ fn open(code: &mut Code) {
 /// "PUK not verified 6982; else tries 3, PIN and PUK marks off, 9000."
 fn unblock_by_mark(card: &mut CardState, pin: usize) -> Judged {
     refuse_unless_blocked(card, pin)?;
+    refuse_at_limit(card, pin)?;
     verified(card, PUK)?;
     card.codes[pin].tries = MAX_TRIES;
     close_pin_and_puk(card, pin);
+    count_unblocking(card, pin);
     done()
 }
 
@@ -303,12 +305,14 @@ fn unblock_by_mark(card: &mut CardState, pin: usize) -> Judged {
 /// unchanged; else PIN stored, both tries 3, both marks off, 9000."
 fn unblock_by_puk(card: &mut CardState, pin: usize, data: &[u8]) -> Judged {
     refuse_unless_blocked(card, pin)?;
+    refuse_at_limit(card, pin)?;
     let new = present_and_split(&mut card.codes[PUK], data)?;
     refuse_unless_allowed(pin, new)?;
     card.codes[pin].value = Bytes::of(new);
     card.codes[pin].tries = MAX_TRIES;
     card.codes[PUK].tries = MAX_TRIES;
     close_pin_and_puk(card, pin);
+    count_unblocking(card, pin);
     done()
 }
 
@@ -321,6 +325,20 @@ fn close_pin_and_puk(card: &mut CardState, pin: usize) {
 /// "PIN has tries: 6A86"
 fn refuse_unless_blocked(card: &CardState, pin: usize) -> Result<(), u16> {
     if card.codes[pin].tries > 0 { Err(status::BAD_P1_P2) } else { Ok(()) }
+}
+
+/// Wish 6: "6983 after "PIN has tries" and before the PUK is looked at".
+fn refuse_at_limit(card: &CardState, pin: usize) -> Result<(), u16> {
+    if card.unblocking_count(pin) == 0 { Err(status::BLOCKED) } else { Ok(()) }
+}
+
+/// Wish 6: "A successful RESET RETRY lowers it by one, unless it is A5h". The caller knows that it is
+/// not 0.
+fn count_unblocking(card: &mut CardState, pin: usize) {
+    let count = &mut card.unblocking_counts[pin - PIN1];
+    if *count != NO_LIMIT {
+        *count -= 1;
+    }
 }
 
 fn in_environment(card: &CardState, environment: u8) -> Result<(), u16> {

@@ -27,3 +27,11 @@ pub fn code_command(line: &[u8]) -> Option<CodeCommand> {
         _ => None,
     }
 }
+
+/// The PIN that P2 of a RESET RETRY names, in either form.
+pub fn reset_pin(line: &[u8]) -> Option<usize> {
+    match code_command(line)? {
+        CodeCommand::UnblockByMark { pin } | CodeCommand::UnblockByPuk { pin } => Some(pin),
+        _ => None,
+    }
+}

@@ -2,7 +2,8 @@
 
 use crate::generate::Random;
 use crate::images::{self, VERY_LONG};
-use crate::{hex, load};
+use crate::writer::LONGEST_IMAGE;
+use crate::{hex, load, sections};
 use std::io::{self, Write};
 use std::process::{ChildStdin, Command, ExitCode, Output, Stdio};
 use std::{env, iter, thread, time::Duration};
@@ -88,22 +89,25 @@ fn shown(bytes: &[u8]) -> String {
     if is_text { String::from_utf8_lossy(start).into_owned() } else { hex::encode(start) }
 }
 
-/// How many images gave each load number, 0 for those that load; and how many had a length that matters.
+/// How many images gave each load number, 0 for those that load; and how many had a length that matters,
+/// and a last section of each kind.
 #[derive(Default)]
 struct Counts {
-    numbers: [usize; 28],
+    numbers: [usize; 29],
     shortest: usize,
     longest: usize,
     very_long: usize,
+    sections: sections::Counts,
 }
 
 impl Counts {
     fn add(&mut self, image: &[u8]) {
         let number = load(image).1 as usize;
         self.numbers[number] += 1;
+        self.sections.add(image);
         match image.len() {
             84 if number == 0 => self.shortest += 1,
-            1115 if number == 0 => self.longest += 1,
+            LONGEST_IMAGE if number == 0 => self.longest += 1,
             VERY_LONG.. => self.very_long += 1,
             _ => {}
         }
@@ -112,9 +116,10 @@ impl Counts {
     fn print(&self) {
         println!("{} images alike", self.numbers.iter().sum::<usize>());
         println!("loaded {}", self.numbers[0]);
-        for number in 21..=27 {
+        for number in 21..=28 {
             println!("{number} {}", self.numbers[number]);
         }
         println!("shortest {}\nlongest {}\nvery long {}", self.shortest, self.longest, self.very_long);
+        self.sections.lines().iter().for_each(|line| println!("{line}"));
     }
 }

@@ -10,7 +10,7 @@ const APART: usize = 40;
 
 /// How a code comes to be open, or the tries that it has closed.
 #[derive(Clone, Copy)]
-enum Mark {
+pub(crate) enum Mark {
     Verified,
     Changed,
     Closed(u8),
@@ -20,7 +20,7 @@ use Mark::{Changed, Closed, Verified};
 
 /// The values in a CHANGE or a RESET RETRY.
 #[derive(Clone, Copy)]
-enum Values {
+pub(crate) enum Values {
     Allowed,
     /// The new value is the old one.
     Same,
@@ -28,10 +28,12 @@ enum Values {
     Refused,
     /// The old value is wrong or short.
     Wrong,
+    /// The old value is short, and nothing follows it.
+    Short,
 }
 
 #[derive(Clone, Copy)]
-enum Deed {
+pub(crate) enum Deed {
     Change(usize, Values),
     /// RESET RETRY for this PIN; without values P1 is 03.
     Unblock(usize, Option<Values>),
@@ -160,7 +162,7 @@ impl<S: Played> Generator<S> {
         }
     }
 
-    fn act(&mut self, deed: Deed) {
+    pub(crate) fn act(&mut self, deed: Deed) {
         match deed {
             Deed::Change(code, values) => {
                 let data = self.old_and_new(code, code, values);
@@ -187,6 +189,7 @@ impl<S: Played> Generator<S> {
             Values::Allowed => self.allowed_value(new),
             Values::Same => old.clone(),
             Values::Refused => self.refused_value(new),
+            Values::Short => return old[..last].to_vec(),
             Values::Wrong if self.random.percent(30) => return old[..last].to_vec(),
             Values::Wrong => {
                 old[self.random.between(0, last)] ^= self.random.pick(&[1, 2, 0x80]);
@@ -240,7 +243,7 @@ impl<S: Played> Generator<S> {
     }
 
     /// VERIFY with the right value.
-    fn present(&mut self, code: usize) {
+    pub(crate) fn present(&mut self, code: usize) {
         let value = self.stored(code);
         self.send_alone([0x00, 0x20, 0x00, code as u8], &value, None);
     }
@@ -273,7 +276,7 @@ impl<S: Played> Generator<S> {
     }
 
     /// The right value where the code has fewer tries; a reset where no wrong value is to close it.
-    fn raise_to(&mut self, code: usize, tries: u8) {
+    pub(crate) fn raise_to(&mut self, code: usize, tries: u8) {
         if self.session.card().codes[code].tries < tries {
             self.present(code);
         }
@@ -283,7 +286,7 @@ impl<S: Played> Generator<S> {
     }
 
     /// Wrong values until the code has at most so many tries.
-    fn lower_to(&mut self, code: usize, tries: u8) {
+    pub(crate) fn lower_to(&mut self, code: usize, tries: u8) {
         for _ in tries..self.session.card().codes[code].tries {
             self.send_alone([0x00, 0x20, 0x00, code as u8], &[0x00], None);
         }

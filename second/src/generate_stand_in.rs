@@ -2,6 +2,7 @@
 //! and buffers of every kind, with the commands of `generate`.
 
 use crate::generate::{Generator, Played, Random};
+use crate::generate_unblocking::first_unblocking;
 use crate::images::{self, Fault, Parts};
 use crate::lines::LineProgram;
 use crate::stand_in::{StandIn, LARGEST_BUFFER};
@@ -17,11 +18,13 @@ const MOST_BYTES: usize = 2047;
 pub struct PlayedStandIn {
     pub(crate) stand_in: StandIn,
     /// The next session begins when so many lines are made.
-    session_ends: usize,
+    pub(crate) session_ends: usize,
     /// Whether a command that would block PUK is held back, because nothing unblocks PUK.
-    spares_puk: bool,
+    pub(crate) spares_puk: bool,
     /// Goes through the faults.
     turn: usize,
+    /// Goes through the cases of `generate_unblocking`.
+    pub(crate) next_unblocking: usize,
 }
 
 impl Generator<PlayedStandIn> {
@@ -33,6 +36,7 @@ impl Generator<PlayedStandIn> {
             session_ends: 40,
             spares_puk: true,
             turn: seed as usize,
+            next_unblocking: first_unblocking(seed),
         };
         Self::on(played, seed)
     }
@@ -143,15 +147,23 @@ impl Generator<PlayedStandIn> {
         if self.random.percent(3) {
             self.write_shortest_or_longest();
         }
-        if self.random.percent(50) {
-            self.refused_card();
-        } else {
-            self.good_card();
+        match self.random.below(100) {
+            0..=42 => self.refused_card(),
+            43..=81 => self.good_card(),
+            _ => self.unblock_around_limit(),
         }
     }
 
+    /// The longer sessions have no low unblocking counts: a PIN that stays blocked shows little.
     fn good_card(&mut self) {
-        let image = Parts::valid(&mut self.random).bytes();
+        let (least, most) = match self.random.below(100) {
+            0..=61 => (5, 15),
+            62..=87 => (20, 80),
+            88..=97 => (100, 400),
+            _ => (1000, 3000),
+        };
+        let parts = Parts::valid(&mut self.random);
+        let image = if most > 80 { parts.with_high_counts() } else { parts }.bytes();
         self.call(b'L', &image);
         if self.random.percent(15) {
             self.write();
@@ -165,18 +177,12 @@ impl Generator<PlayedStandIn> {
             self.edge_order();
         }
         self.make_usable();
-        let (least, most) = match self.random.below(100) {
-            0..=61 => (5, 15),
-            62..=87 => (20, 80),
-            88..=97 => (100, 400),
-            _ => (1000, 3000),
-        };
         self.session.session_ends = self.made + self.random.between(least, most);
         self.session.spares_puk = self.random.percent(75);
     }
 
     /// Lends and sizes anew what would only be refused.
-    fn make_usable(&mut self) {
+    pub(crate) fn make_usable(&mut self) {
         let good = 1..=LONGEST_CERTIFICATE;
         if !good.contains(&self.session.stand_in.authentication().len()) || self.random.percent(25) {
             self.lend_good_as(b'A');
@@ -207,7 +213,7 @@ impl Generator<PlayedStandIn> {
         match r.below(20) {
             0..=4 => images::with_fault(r, faults[turn % faults.len()]),
             5..=9 => {
-                let number = 22 + (turn % 6) as u8;
+                let number = 22 + (turn % 7) as u8;
                 let alike: Vec<Fault> = faults.into_iter().filter(|fault| fault.number() == number).collect();
                 let fault = r.pick(&alike);
                 images::with_fault(r, fault)
@@ -219,11 +225,11 @@ impl Generator<PlayedStandIn> {
                 images::mutated(r, image)
             }
             18 => {
-                let length = r.pick(&[1116, MOST_BYTES - 1, MOST_BYTES]);
+                let length = r.pick(&[1119, MOST_BYTES - 1, MOST_BYTES]);
                 images::filled_up(r, length)
             }
             _ => {
-                let n = r.pick(&[0, 0, 1, 84, 1115, MOST_BYTES]);
+                let n = r.pick(&[0, 0, 1, 84, 1118, MOST_BYTES]);
                 r.bytes(n)
             }
         }
@@ -621,7 +627,7 @@ fn other_buffer(r: &mut Random) -> Vec<u8> {
 fn other_image_line(r: &mut Random) -> Vec<u8> {
     let n = r.between(1, 4);
     let (any, image) = (r.bytes(n), Parts::valid(r).bytes());
-    let lines = [&b"i"[..], b"I ", b" I", b"I\r", b"I\t", b"I\0", b"II", b"IP", b"PI", b"I0", b"I00", b"I1115", b"IL"].map(<[u8]>::to_vec);
+    let lines = [&b"i"[..], b"I ", b" I", b"I\r", b"I\t", b"I\0", b"II", b"IP", b"PI", b"I0", b"I00", b"I1118", b"IL"].map(<[u8]>::to_vec);
     match r.below(8) {
         0 => line_of(b'I', &any),
         1 => line_of(b'I', &image),

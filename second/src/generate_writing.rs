@@ -13,10 +13,11 @@ impl Generator<PlayedStandIn> {
         self.line(b"I".to_vec());
     }
 
-    /// With a buffer around what the calls need, around what the writer needs, or the largest. On a
-    /// good card one that the calls take comes after it.
+    /// With a buffer around what the calls need, around what the writer needs, as long as the longest
+    /// image without its last section, or the largest. On a good card one that the calls take comes
+    /// after it.
     pub(crate) fn write_by_size(&mut self) {
-        let sizes = [0, SMALLEST_BUFFER - 1, SMALLEST_BUFFER, LONGEST_IMAGE - 1, LONGEST_IMAGE, LONGEST_IMAGE + 1, 4096];
+        let sizes = [0, SMALLEST_BUFFER - 1, SMALLEST_BUFFER, 1115, LONGEST_IMAGE - 1, LONGEST_IMAGE, LONGEST_IMAGE + 1, 4096];
         let size = self.random.pick(&sizes);
         self.buffer(size);
         self.write();
@@ -25,10 +26,12 @@ impl Generator<PlayedStandIn> {
         }
     }
 
-    /// A card of the shortest or the longest image, written, loaded and written again.
+    /// A card of the shortest or the longest image, with its last section or without, written, loaded
+    /// and written again.
     pub(crate) fn write_shortest_or_longest(&mut self) {
         let r = &mut self.random;
-        let image = if r.percent(50) { Parts::shortest(r) } else { Parts::longest(r) }.bytes();
+        let parts = if r.percent(50) { Parts::shortest(r) } else { Parts::longest(r) };
+        let image = if r.percent(60) { parts } else { parts.with_or_without_section(r) }.bytes();
         self.call(b'L', &image);
         self.make_room();
         self.write();
@@ -36,7 +39,7 @@ impl Generator<PlayedStandIn> {
         self.write();
     }
 
-    fn make_room(&mut self) {
+    pub(crate) fn make_room(&mut self) {
         if self.session.stand_in.buffer_length() < LONGEST_IMAGE {
             let size = self.random.pick(&[LONGEST_IMAGE, LONGEST_IMAGE, LONGEST_IMAGE + 1, 4096]);
             self.buffer(size);
@@ -63,7 +66,7 @@ impl Generator<PlayedStandIn> {
         self.write();
     }
 
-    fn load_what_is_written(&mut self) {
+    pub(crate) fn load_what_is_written(&mut self) {
         self.make_room();
         self.write();
         let mut image = [0; LONGEST_IMAGE];

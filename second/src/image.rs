@@ -9,8 +9,9 @@ pub const KEY: u8 = 24;
 pub const REFERENCE: u8 = 25;
 pub const RECORD_LENGTH: u8 = 26;
 pub const LEFT_OVER: u8 = 27;
+pub const UNBLOCKING_COUNT: u8 = 28;
 
-/// The state and 0, or the all-zero state and 21 to 27.
+/// The state and 0, or the all-zero state and 21 to 28.
 pub fn load(image: &[u8]) -> (CardState, u8) {
     match read_card(image) {
         Ok(card) => (card, 0),
@@ -40,15 +41,27 @@ impl Reader<'_> {
 fn read_card(image: &[u8]) -> Result<CardState, u8> {
     let mut reader = Reader { rest: image };
     let mut card = CardState::ZERO;
-    read_codes(&mut reader, &mut card)?;
-    read_keys(&mut reader, &mut card)?;
-    read_references(&mut reader, &mut card)?;
-    read_records(&mut reader, &mut card)?;
+    read_to_records(&mut reader, &mut card)?;
+    read_unblocking_counts(&mut reader, &mut card)?;
     if !reader.rest.is_empty() {
         return Err(LEFT_OVER);
     }
     card.start_session();
     Ok(card)
+}
+
+/// The bytes behind the personal records; None where there is a fault before them.
+pub fn behind_records(image: &[u8]) -> Option<&[u8]> {
+    let mut reader = Reader { rest: image };
+    read_to_records(&mut reader, &mut CardState::ZERO.clone()).ok()?;
+    Some(reader.rest)
+}
+
+fn read_to_records(reader: &mut Reader, card: &mut CardState) -> Result<(), u8> {
+    read_codes(reader, card)?;
+    read_keys(reader, card)?;
+    read_references(reader, card)?;
+    read_records(reader, card)
 }
 
 /// "Codes: 3; PUK, PIN1, PIN2, each as length, digits, tries."
@@ -111,4 +124,19 @@ fn read_records(reader: &mut Reader, card: &mut CardState) -> Result<(), u8> {
         record.length = length;
     }
     Ok(())
+}
+
+/// Wish 6: "a last section, count 2, then the two bytes, PIN1 first, each 0 to A5h. An image that ends
+/// after the personal records means A5h for both". "28 for a byte over A5h as it is read, or for A5h
+/// twice after the second byte and before 27."
+fn read_unblocking_counts(reader: &mut Reader, card: &mut CardState) -> Result<(), u8> {
+    if reader.rest.is_empty() {
+        card.unblocking_counts = [NO_LIMIT; 2];
+        return Ok(());
+    }
+    reader.judged(COUNT, |count| count as usize == card.unblocking_counts.len())?;
+    for count in &mut card.unblocking_counts {
+        *count = reader.judged(UNBLOCKING_COUNT, |n| n <= NO_LIMIT)?;
+    }
+    if card.unblocking_counts == [NO_LIMIT; 2] { Err(UNBLOCKING_COUNT) } else { Ok(()) }
 }

@@ -18,5 +18,6 @@ pub fn listing(image: &[u8]) -> String {
     for record in &card.records {
         text += &format!("record {}\n", hex::encode(record.get()));
     }
-    text
+    let [pin1, pin2] = card.unblocking_counts;
+    text + &format!("unblocking {pin1} {pin2}\n")
 }

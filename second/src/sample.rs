@@ -1,7 +1,8 @@
 //! The sample card of the chapter "Cases", and two small certificates.
 
 /// "PIN1 1234, PIN2 12345, PUK 12345678, 3 tries, keys 0100h and 1100h, both
-/// active, other bytes of 0033h zero, each personal record one byte 20h."
+/// active, other bytes of 0033h zero, each personal record one byte 20h." Wish 6: no limit on
+/// unblocking, so there is no last section.
 pub fn image() -> Vec<u8> {
     let mut image = vec![3];
     for digits in ["12345678", "1234", "12345"] {

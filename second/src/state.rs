@@ -33,6 +33,8 @@ pub const PIN1: usize = 1;
 pub const PIN2: usize = 2;
 pub const MAX_TRIES: u8 = 3;
 pub const LONGEST_CODE: usize = 12;
+/// Wish 6: "where A5h means no limit"; it is the greatest unblocking count, too.
+pub const NO_LIMIT: u8 = 0xA5;
 
 /// PUK 8 to 12 digits, PIN1 4 to 12, PIN2 5 to 12.
 pub fn shortest_code(number: usize) -> usize {
@@ -142,6 +144,8 @@ pub struct CardState {
     pub references: [u8; REFERENCES],
     /// The 5044h records.
     pub records: [Bytes<LONGEST_RECORD>; RECORDS],
+    /// Wish 6: for PIN1 and PIN2, each 0 to A5h.
+    pub unblocking_counts: [u8; 2],
     // The session.
     pub directory: Directory,
     pub file: Option<File>,
@@ -161,6 +165,7 @@ impl CardState {
         key_count: 0,
         references: [0; REFERENCES],
         records: [Bytes::EMPTY; RECORDS],
+        unblocking_counts: [0; 2],
         directory: Directory::Root,
         file: None,
         environment: 0,
@@ -169,6 +174,10 @@ impl CardState {
         chain: Bytes::EMPTY,
         job: None,
     };
+
+    pub fn unblocking_count(&self, pin: usize) -> u8 {
+        self.unblocking_counts[pin - PIN1]
+    }
 
     pub fn present_keys(&self) -> &[u16] {
         &self.keys[..self.key_count]
@@ -197,7 +206,7 @@ impl CardState {
     }
 
     /// "root, no file, environment 1, choices at "active", marks off, the rest
-    /// empty. A reset keeps code values and tries."
+    /// empty. A reset keeps code values and tries." Wish 6: the unblocking counts, too.
     pub fn start_session(&mut self) {
         self.directory = Directory::Root;
         self.file = None;
@@ -219,7 +228,8 @@ impl CardState {
             && self.present_keys().iter().all(|key| key_class(*key).is_some())
             && self.keys[self.key_count..].iter().all(|key| *key == 0);
         let records = self.records.iter().all(|record| record.length >= 1 && record.is_good());
-        if !(codes && keys && records) {
+        let counts = self.unblocking_counts.iter().all(|count| *count <= NO_LIMIT);
+        if !(codes && keys && records && counts) {
             return false;
         }
         let classes = [KeyClass::Signature, KeyClass::Authentication];

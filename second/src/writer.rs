@@ -1,10 +1,10 @@
-//! The writer of document 02's wish 3: from a card state to its card image.
+//! The writer of document 02's wishes 3 and 6: from a card state to its card image.
 
 use crate::load;
 use crate::state::*;
 
-/// "It needs a buffer of 1,115 bytes"
-pub const LONGEST_IMAGE: usize = 1115;
+/// Wish 6: "Its buffer is now 1,118 bytes."
+pub const LONGEST_IMAGE: usize = 1118;
 
 /// The length of the image, which is in the first bytes of the buffer; or edge refusal 1 or 2,
 /// and nothing is written.
@@ -35,6 +35,10 @@ fn image_of(card: &CardState) -> Vec<u8> {
     image.push(RECORDS as u8);
     for record in &card.records {
         put_with_length(&mut image, record.get());
+    }
+    // Wish 6: it "leaves the section out when both are A5h".
+    if card.unblocking_counts != [NO_LIMIT; 2] {
+        put_with_length(&mut image, &card.unblocking_counts);
     }
     image
 }

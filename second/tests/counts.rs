@@ -1,17 +1,20 @@
 //! Demand 3's numbers over generated sessions, counted from the calls' bytes and their answers, with
 //! document 02's wish 4: its "last sentence then counts right VERIFY and successful CHANGE of PIN2
-//! together".
+//! together"; and wish 6: "unblockings of a PIN from load never outnumber its count at load unless that
+//! is A5h".
 
 mod played;
 
 use played::{play_stand_in, play_transcript, Codes, Step, SEEDS};
 use second::code_commands::{code_command, CodeCommand};
-use second::state::{PIN2, PUK};
+use second::state::{NO_LIMIT, PIN1, PIN2, PUK};
 
 /// From a load on.
 #[derive(Clone, Debug, Default)]
 struct Counts {
     tries_at_load: [usize; 3],
+    /// Of PIN1 and PIN2.
+    counts_at_load: [u8; 2],
     wrong: [usize; 3],
     restorations: [usize; 3],
     unblockings: [usize; 3],
@@ -21,8 +24,8 @@ struct Counts {
 }
 
 impl Counts {
-    fn from_load(codes: Codes) -> Counts {
-        Counts { tries_at_load: codes.map(|(tries, _)| tries as usize), ..Counts::default() }
+    fn from_load(codes: Codes, counts_at_load: [u8; 2]) -> Counts {
+        Counts { tries_at_load: codes.map(|(tries, _)| tries as usize), counts_at_load, ..Counts::default() }
     }
 
     fn add(&mut self, line: &[u8], answer: &str) {
@@ -67,16 +70,26 @@ impl Counts {
             assert!(self.wrong[code] <= self.most_wrong(code), "{self:?}");
         }
         assert!(self.signatures <= self.presentations_of_pin2(), "{self:?}");
+        for pin in [PIN1, PIN2] {
+            assert!(self.unblockings[pin] <= self.most_unblockings(pin), "{self:?}");
+        }
+    }
+
+    fn most_unblockings(&self, pin: usize) -> usize {
+        match self.counts_at_load[pin - PIN1] {
+            NO_LIMIT => usize::MAX,
+            count => count as usize,
+        }
     }
 }
 
 /// The counts after each line, each load beginning anew; on a card that load refused nothing counts.
 fn count(steps: &[Step]) -> Vec<Counts> {
-    let mut counts = Counts::from_load(steps[0].before);
+    let mut counts = Counts::from_load(steps[0].before, steps[0].counts_before);
     let after = |step: &Step| {
         let (line, answer) = &step.answered;
         if line.starts_with(b"L") && answer != "?" {
-            counts = Counts::from_load(step.after);
+            counts = Counts::from_load(step.after, step.counts_after);
         } else {
             counts.add(line, answer);
         }
@@ -116,5 +129,15 @@ fn some_sessions_have_as_many_wrong_answers_as_there_can_be() {
     for code in 0..3 {
         let met = |counts: &Counts| counts.restorations[code] > 0 && counts.wrong[code] == counts.most_wrong(code);
         assert!(counts.iter().any(met), "{code}");
+    }
+}
+
+/// Small counts are used up in some session.
+#[test]
+fn counts_are_used_up() {
+    let counts: Vec<Counts> = (1..=SEEDS).flat_map(count_stand_in).collect();
+    for (pin, at_load) in [PIN1, PIN2].iter().flat_map(|pin| [1, 2].map(|count| (*pin, count))) {
+        let used_up = |counts: &Counts| counts.counts_at_load[pin - PIN1] == at_load && counts.unblockings[pin] == at_load as usize;
+        assert!(counts.iter().any(used_up), "{pin} {at_load}");
     }
 }

@@ -1,4 +1,4 @@
-//! Load faults 21 to 27, edge refusals and good states.
+//! Load faults 21 to 28, edge refusals and good states.
 
 mod states;
 
@@ -64,11 +64,15 @@ fn load_25_references() {
 }
 
 #[test]
-fn load_26_and_27() {
+fn load_26_records() {
     assert_eq!((changed(52, 0), changed(82, 65), changed(82, 64)), (26, 26, 21));
-    let mut image = sample::image();
-    image.push(0);
-    assert_eq!(load(&image).1, 27);
+}
+
+#[test]
+fn load_27_and_28() {
+    let followed = |more: &[u8]| load(&[&sample::image()[..], more].concat()).1;
+    assert_eq!((followed(&[0]), followed(&[2]), followed(&[2, 0]), followed(&[2, 0, 0])), (22, 21, 21, 0));
+    assert_eq!((followed(&[2, 0, 0, 0]), followed(&[2, 0xA5, 0xA5]), followed(&[2, 0xA6]), followed(&[2, 0, 0xA6])), (27, 28, 28, 28));
 }
 
 #[test]

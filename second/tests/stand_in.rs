@@ -57,8 +57,11 @@ fn load_gives_the_card_of_the_image() {
 #[test]
 fn a_refused_image_leaves_the_zero_card() {
     let short = load_line(&sample::image()[..83]);
-    let long = format!("{}00", load_line(&sample::image()));
-    for (line, number) in [("L", "F21"), ("L02", "F22"), ("L0304", "F23"), (&short, "F21"), (&long, "F27")] {
+    let with_section = |section: &str| format!("{}{section}", load_line(&sample::image()));
+    let (other_count, left_over, no_limits) = (with_section("00"), with_section("02A50000"), with_section("02A5A5"));
+    for (line, number) in [
+        ("L", "F21"), ("L02", "F22"), ("L0304", "F23"), (&short, "F21"), (&other_count, "F22"), (&left_over, "F27"), (&no_limits, "F28"),
+    ] {
         check(&[
             (VERIFY_PIN1, "R9000"), (line, number), ("P", "H1"), ("C", "H1"), (SELECT_ROOT, "H1"), ("D", "H1"),
             ("B0", "B"), ("A", "A"), ("S", "S"), ("P", "H1"), ("C", "H1"), ("D", "H1"), ("Lx", "?"), ("L0", "?"), ("C", "H1"),

@@ -14,7 +14,7 @@ use second::generate::{Generator, Random};
 use second::images::{cut_short, with_fault, Fault, Parts};
 use second::lines::{LineProgram, BLOCK};
 use second::stand_in::StandIn;
-use second::state::{KeyClass, PUK};
+use second::state::{KeyClass, PIN1, PIN2, PUK};
 use second::{load, sample, CardState};
 use std::collections::BTreeSet;
 
@@ -127,7 +127,11 @@ fn cards_have_every_length_and_number_of_tries() {
     check_all(collect(|step| loaded(step).map_or(vec![], records)), 1..=64);
 
     let image = |step: &Step| loaded(step).map(|_| step.line.len() / 2).into_iter().collect();
-    check_all(collect(image), [84, 1115]);
+    check_all(collect(image), [84, 87, 1115, 1118]);
+
+    let counts = |card: &CardState| [(PIN1, card.unblocking_counts[0]), (PIN2, card.unblocking_counts[1])].to_vec();
+    let expected = [0, 1, 2, 3, 0xA4, 0xA5].iter().flat_map(|count| [(PIN1, *count), (PIN2, *count)]);
+    check_all(collect(|step| loaded(step).map_or(vec![], counts)), expected);
 }
 
 /// The lengths of records that are read whole.
@@ -164,7 +168,7 @@ fn certificates_and_buffers_have_every_length_that_matters() {
     };
     let lengths = |letter: &'static str, list: &'static [usize]| list.iter().map(move |length| (letter.to_string(), *length));
     let certificates = &[0, 1, 2, 200, 254, 255, 256, 257, 400, 510, 1535, 1536, 1537, 2047];
-    let buffers = &[0, 2, 255, 256, 257, 258, 259, 260, 1114, 1115, 1116, 4095, 4096];
+    let buffers = &[0, 2, 255, 256, 257, 258, 259, 260, 1115, 1117, 1118, 1119, 4095, 4096];
     check_all(collect(lent), lengths("A", certificates).chain(lengths("S", certificates)).chain(lengths("B", buffers)));
 }
 

@@ -1,4 +1,4 @@
-//! The writer of document 02's wish 3: its laws, its edge, the line I and the programs of images.
+//! The writer of document 02's wishes 3 and 6: its laws, its edge, the line I and the programs of images.
 
 mod job_lines;
 mod states;
@@ -37,7 +37,7 @@ fn sample_image() -> Vec<u8> {
     hex::decode(sample_hex().as_bytes()).unwrap()
 }
 
-/// Codes of twelve digits, four keys, records of 64 bytes.
+/// Codes of twelve digits, four keys, records of 64 bytes, and the last section.
 fn longest_image() -> Vec<u8> {
     let mut image = vec![3];
     for (digits, tries) in [("000000000000", 0), ("123456789012", 1), ("999999999999", 2)] {
@@ -52,12 +52,13 @@ fn longest_image() -> Vec<u8> {
         image.push(64);
         image.extend((0..64).map(|place| number * 11 + place));
     }
+    image.extend([2, 0xA4, 0x00]);
     image
 }
 
-/// What the writer makes of a card, with a buffer of 1,115 bytes.
+/// What the writer makes of a card, with a buffer of 1,118 bytes.
 fn written(card: &CardState) -> Vec<u8> {
-    let mut buffer = [0xEE; 1115];
+    let mut buffer = [0xEE; 1118];
     let length = write_image(card, &mut buffer).unwrap();
     buffer[..length].to_vec()
 }
@@ -70,26 +71,26 @@ fn the_sample_card_is_written_as_its_image() {
 }
 
 #[test]
-fn the_longest_image_has_1115_bytes() {
+fn the_longest_image_has_1118_bytes() {
     let image = longest_image();
     let (card, number) = load(&image);
-    assert_eq!((image.len(), number), (1115, 0));
+    assert_eq!((image.len(), number), (1118, 0));
     assert_eq!(written(&card), image);
-    let mut buffer = [0xEE; 1114];
+    let mut buffer = [0xEE; 1117];
     assert_eq!(write_image(&card, &mut buffer), Err(2));
-    assert_eq!(buffer, [0xEE; 1114]);
+    assert_eq!(buffer, [0xEE; 1117]);
 }
 
 #[test]
 fn the_first_refusal_wins_and_nothing_is_written() {
     let good = load(&sample::image()).0;
-    for size in 0..1115 {
+    for size in 0..1118 {
         let mut buffer = vec![0xEE; size];
         assert_eq!(write_image(&good, &mut buffer), Err(2), "{size}");
         assert_eq!(buffer, vec![0xEE; size]);
     }
     for (name, bad) in bad_states() {
-        for size in [0, 84, 1114, 1115, 4096] {
+        for size in [0, 84, 1115, 1117, 1118, 4096] {
             let mut buffer = vec![0xEE; size];
             assert_eq!(write_image(&bad, &mut buffer), Err(1), "{name}, {size}");
             assert_eq!(buffer, vec![0xEE; size], "{name}");
@@ -102,9 +103,9 @@ fn an_empty_record_is_refused_and_one_of_a_byte_is_not() {
     let mut card = load(&longest_image()).0;
     for number in 0..16 {
         card.records[number] = Bytes::EMPTY;
-        assert_eq!(write_image(&card, &mut [0; 1115]), Err(1), "{number}");
+        assert_eq!(write_image(&card, &mut [0; 1118]), Err(1), "{number}");
         card.records[number] = Bytes::of(&[0]);
-        assert_eq!(written(&card).len(), 1115 - 63 * (number + 1));
+        assert_eq!(written(&card).len(), 1118 - 63 * (number + 1));
     }
 }
 
@@ -114,7 +115,7 @@ fn no_byte_past_the_image_is_changed() {
     for _ in 0..300 {
         let image = Parts::valid(&mut random).bytes();
         let card = load(&image).0;
-        for (size, filler) in [(1115, 0xEE), (1116, 0x11), (1700, 0x00), (4096, 0xFF)] {
+        for (size, filler) in [(1118, 0xEE), (1119, 0x11), (1700, 0x00), (4096, 0xFF)] {
             let mut buffer = vec![filler; size];
             assert_eq!(write_image(&card, &mut buffer), Ok(image.len()));
             let (first, rest) = buffer.split_at(image.len());
@@ -140,8 +141,8 @@ fn generated_images_are_written_back() {
             (_, number) => assert_eq!(rewritten(&image), format!("{number}\n").as_bytes()),
         }
     }
-    assert!(lengths[&84] > 5 && lengths[&1115] > 5 && lengths.len() > 200, "{lengths:?}");
-    assert!(lengths.keys().all(|length| (84..=1115).contains(length)));
+    assert!(lengths[&84] > 5 && lengths[&1118] > 5 && lengths.len() > 200, "{lengths:?}");
+    assert!(lengths.keys().all(|length| (84..=1118).contains(length)));
 }
 
 /// "Loading what it writes gives the state after a power reset"
@@ -222,20 +223,22 @@ fn the_line_leaves_job_chain_and_held_answer() {
 }
 
 #[test]
-fn the_line_asks_for_a_good_card_and_then_for_1115_bytes() {
+fn the_line_asks_for_a_good_card_and_then_for_1118_bytes() {
     let sample = format!("I{}", sample_hex());
     let load_line = format!("L{}", sample_hex());
-    for (size, large) in [("B0", false), ("B257", false), ("B258", false), ("B1114", false), ("B1115", true), ("B1116", true), ("B4096", true)] {
+    let small = ["B0", "B257", "B258", "B1114", "B1115", "B1117"].map(|size| (size, false));
+    let large = ["B1118", "B1119", "B4096"].map(|size| (size, true));
+    for (size, large) in small.into_iter().chain(large) {
         let answer = if large { &sample } else { "H2" };
         check(&[(size, "B"), ("I", answer), ("L", "F21"), ("I", "H1"), (size, "B"), ("I", "H1"), (&load_line, "L"), ("I", answer)]);
     }
-    check(&[("A", "A"), ("S", "S"), ("I", &sample), ("C", "H3"), ("B1114", "B"), ("I", "H2"), ("C", "H3"), ("B1115", "B"), ("I", &sample)]);
+    check(&[("A", "A"), ("S", "S"), ("I", &sample), ("C", "H3"), ("B1117", "B"), ("I", "H2"), ("C", "H3"), ("B1118", "B"), ("I", &sample)]);
 }
 
 #[test]
 fn anything_but_the_letter_is_another_line() {
     let long = format!("I{}", "0".repeat(4096));
-    for line in ["i", "I ", " I", "I\r", "II", "I0", "I00", "IP", "I1115", &format!("I{}", sample_hex()), &long] {
+    for line in ["i", "I ", " I", "I\r", "II", "I0", "I00", "IP", "I1118", &format!("I{}", sample_hex()), &long] {
         check(&[(line, "?"), ("C002000010431323334", "R9000"), (line, "?"), ("C00200001", "R9000")]);
     }
 }
@@ -257,8 +260,8 @@ fn extremes_are_what_they_say() {
         }
         counts
     };
-    assert_eq!(numbers(true), BTreeMap::from([(22, 1), (26, 1), (27, 6)]));
-    assert_eq!(numbers(false), BTreeMap::from([(0, 3), (21, 4), (27, 6)]));
+    assert_eq!(numbers(true), BTreeMap::from([(22, 4), (26, 1), (27, 3), (28, 1)]));
+    assert_eq!(numbers(false), BTreeMap::from([(0, 5), (21, 8), (22, 10), (27, 7), (28, 5)]));
 }
 
 const REWRITE: &str = env!("CARGO_BIN_EXE_second-rewrite");
@@ -315,8 +318,8 @@ fn compared(program: &str) -> (Option<i32>, String) {
 fn the_comparison_finds_the_second_program_alike() {
     let (status, output) = compared(REWRITE);
     assert_eq!(status, Some(0), "{output}");
-    assert!(output.starts_with("171 images alike\n"), "{output}");
-    for wanted in ["\nloaded ", "\n21 ", "\n22 ", "\n23 ", "\n24 ", "\n25 ", "\n26 ", "\n27 ", "\nshortest ", "\nlongest ", "\nvery long "] {
+    assert!(output.starts_with("194 images alike\n"), "{output}");
+    for wanted in ["\nloaded ", "\n21 ", "\n22 ", "\n23 ", "\n24 ", "\n25 ", "\n26 ", "\n27 ", "\n28 ", "\nshortest ", "\nlongest ", "\nvery long "] {
         let number = output.split(wanted).nth(1).unwrap_or_else(|| panic!("{wanted:?} in {output}"));
         assert!(!number.starts_with('0'), "{wanted:?} in {output}");
     }
@@ -335,9 +338,10 @@ fn the_comparison_notices_other_programs() {
 /// The second program against answers that are wrong, each on the extremes alone.
 #[test]
 fn the_extremes_show_wrong_answers() {
-    let wrong: [(&str, Answer); 6] = [
+    let wrong: [(&str, Answer); 7] = [
         ("the number without a line end", |image| rewritten(image).strip_suffix(b"\n").map_or(rewritten(image), <[u8]>::to_vec)),
         ("a line end behind the image", |image| [&rewritten(image)[..], if load(image).1 == 0 { b"\n" } else { b"" }].concat()),
+        ("1,118 bytes are read", |image| rewritten(&image[..image.len().min(1118)])),
         ("1,115 bytes are read", |image| rewritten(&image[..image.len().min(1115)])),
         ("84 bytes are read", |image| rewritten(&image[..image.len().min(84)])),
         ("too long an input is no image", |image| if image.len() < VERY_LONG { rewritten(image) } else { b"21\n".to_vec() }),

@@ -65,7 +65,7 @@ type Condition = fn(&Step) -> bool;
 type CodeCondition = fn(&Code, &Code) -> bool;
 
 /// What a session has when the image is written.
-const SITUATIONS: [(&str, Condition); 10] = [
+const SITUATIONS: [(&str, Condition); 14] = [
     ("as loaded", |step| step.before == step.loaded),
     ("a held answer", |step| step.before.held.length > 0),
     ("a chain", |step| step.before.chain.length > 0),
@@ -76,6 +76,10 @@ const SITUATIONS: [(&str, Condition); 10] = [
     ("a file", |step| step.before.file.is_some()),
     ("environment 6", |step| step.before.environment == 6),
     ("a choice", |step| step.before.choices != [0; 3]),
+    ("PIN1's count lowered", |step| step.before.unblocking_counts[0] < step.loaded.unblocking_counts[0]),
+    ("PIN2's count lowered", |step| step.before.unblocking_counts[1] < step.loaded.unblocking_counts[1]),
+    ("PIN1's count used up", |step| step.before.unblocking_counts[0] == 0 && step.loaded.unblocking_counts[0] > 0),
+    ("PIN2's count used up", |step| step.before.unblocking_counts[1] == 0 && step.loaded.unblocking_counts[1] > 0),
 ];
 
 /// What a code has, beside what it had when the card was loaded.
@@ -107,7 +111,7 @@ fn images_are_written_and_refused_in_every_situation() {
     for (name, _) in CODE_SITUATIONS {
         names.extend(CODES.map(|code| format!("{code} {name}")));
     }
-    assert_eq!(names.len(), 25);
+    assert_eq!(names.len(), 29);
     let expected = names.into_iter().flat_map(|name| ["I", "H2"].map(|answer| (name.clone(), answer.to_string())));
     check_all(collect(|steps| steps.iter().flat_map(written_in).collect()), expected);
 }
@@ -119,11 +123,11 @@ fn every_line_leaves_the_card_and_says_what_loads_as_it() {
         let mut card = step.before;
         match step.answer.as_str() {
             "H1" => assert_eq!(card, CardState::ZERO),
-            "H2" => assert!(card.is_good() && step.buffer < 1115),
+            "H2" => assert!(card.is_good() && step.buffer < 1118),
             answer => {
                 card.start_session();
                 assert_eq!(load(&hex::decode(&answer.as_bytes()[1..]).unwrap()), (card, 0));
-                assert!(step.buffer >= 1115);
+                assert!(step.buffer >= 1118);
             }
         }
     }
@@ -137,8 +141,8 @@ fn buffers_have_every_size_that_matters() {
         answers.collect::<Vec<_>>()
     };
     let mut expected = Vec::new();
-    for size in [0, 257, 258, 1114, 1115, 1116, 4096] {
-        expected.push((size, true, if size < 1115 { "H2" } else { "I" }.to_string()));
+    for size in [0, 257, 258, 1115, 1117, 1118, 1119, 4096] {
+        expected.push((size, true, if size < 1118 { "H2" } else { "I" }.to_string()));
         expected.push((size, false, "H1".to_string()));
     }
     check_all(collect(sized), expected);
@@ -150,7 +154,8 @@ fn shortest_and_longest_images_are_written_and_loaded_again() {
         let again = steps.windows(2).filter(|pair| is_loaded_again(&pair[0], &pair[1])).map(|pair| (true, pair[1].line.len() / 2));
         again.chain(steps.iter().filter_map(|step| Some((false, step.image()?.len() / 2)))).collect::<Vec<_>>()
     };
-    check_all(collect(lengths), [(false, 84), (false, 1115), (true, 84), (true, 1115)]);
+    let expected = [84, 87, 1115, 1118].map(|length| [(false, length), (true, length)]);
+    check_all(collect(lengths), expected.into_iter().flatten());
 }
 
 #[test]
@@ -159,7 +164,7 @@ fn other_lines_come_near_the_letter() {
         let others = steps.iter().filter(|step| step.answer == "?" && step.line.len() < 6);
         others.map(|step| step.line.clone()).collect::<Vec<_>>()
     };
-    let lines = [&b"i"[..], b"I ", b" I", b"I\r", b"I\t", b"I\0", b"II", b"IP", b"PI", b"I0", b"I00", b"I1115", b"IL"];
+    let lines = [&b"i"[..], b"I ", b" I", b"I\r", b"I\t", b"I\0", b"II", b"IP", b"PI", b"I0", b"I00", b"I1118", b"IL"];
     check_all(collect(near), lines.map(<[u8]>::to_vec));
 
     let whole = |steps: &[Step]| {

@@ -40,7 +40,7 @@ response-fits (job kind key block) f = absurd f
 -- A step as the code holds it, written.
 abbrev outputWritten : Bytes → Card → StepOutput → Result
 outputWritten w c step =
-    writtenOr w (record { codes = step .codes; profile = c .profile; session = step .session }) (outputOf (step .output))
+    writtenOr w (record { codes = step .codes; counts = step .counts; profile = c .profile; session = step .session }) (outputOf (step .output))
 
 step-written : (w : Bytes) (c : Card) (o : Step) {step : StepOutput} → 258 ≤ length w → fits (o .answer) ≡ true
     → step ≡ stepOutputFor o → outputWritten w c step ≡ answered w c o
@@ -107,7 +107,7 @@ module _ (c : Card) (r w : Bytes) where
       delivery-unasked e = simp (g, le-ltb (length w) 258 room, e)
 
       abbrev delivered : Step
-      delivered = inSession (c .codes) (deliver (c .session) r)
+      delivered = inSession (c .codes) (c .counts) (deliver (c .session) r)
 
       delivery-taken : not (jobWaits c) ≡ false → answered w c delivered ≡ delivery c r w
       unfolding delivery

@@ -40,14 +40,16 @@ fn job_waits(card: Card) -> bool
 
 // The card after a step, and the step's answer in the buffer.
 fn answered(card: Card, step: StepOutput, buffer: &mut [u8]) -> Outcome
-    ensures { λ r. ⌜ record { returned = returned (r .reply); card = r .card; buffer = now (buffer .exit) } ≡ writtenOr (now (buffer .entry)) (record { codes = step .codes; profile = card .profile; session = step .session }) (outputOf (step .output)) ⌝ }
+    ensures { λ r. ⌜ record { returned = returned (r .reply); card = r .card; buffer = now (buffer .exit) } ≡ writtenOr (now (buffer .entry)) (record { codes = step .codes; counts = step .counts; profile = card .profile; session = step .session }) (outputOf (step .output)) ⌝ }
 {
     let codes = step.codes;
+    let counts = step.counts;
     let profile = card.profile;
     let session = step.session;
     let output = step.output;
     let next = Card {
         codes: codes,
+        counts: counts,
         profile: profile,
         session: session,
     };
@@ -99,11 +101,12 @@ pub fn delivery(card: Card, result: &[u8], buffer: &mut [u8]) -> Outcome
         return refused(card, Refusal::NoJobWaiting);
     }
     let codes = card.codes;
-    let step = steps::in_session(codes, deliveries::deliver(card.session, result));
+    let counts = card.counts;
+    let step = steps::in_session(codes, counts, deliveries::deliver(card.session, result));
     answered(card, step, buffer)
 }
 
-// A power reset: marks off and a new session.
+// A power reset: marks off and a new session; the unblocking counts stay.
 pub fn power_reset(card: Card) -> Outcome
     ensures { λ r. ⌜ (returned (r .reply), r .card) ≡ powerReset card ⌝ }
 {
@@ -114,10 +117,12 @@ pub fn power_reset(card: Card) -> Outcome
     let puk_closed = card_codes::closed(kept, Code::PUK);
     let pin1_closed = card_codes::closed(puk_closed, Code::PIN1);
     let codes = card_codes::closed(pin1_closed, Code::PIN2);
+    let left = card.counts;
     let profile = card.profile;
     let session = pending::new_session();
     let next = Card {
         codes: codes,
+        counts: left,
         profile: profile,
         session: session,
     };

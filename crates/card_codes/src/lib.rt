@@ -1,7 +1,8 @@
-// The three codes of a card, by their numbers, read and replaced.
+// The three codes of a card and the unblocking counts of its PINs, by the codes' numbers, read and replaced.
 use rules::Code;
 ghost use mathlib.Core.Path.{_≡_};
-ghost use Rattle.rules.specs.Codes.{zeroCode, codeOf, withCode, closed};
+ghost use Prim.Native.Nat.{_-_};
+ghost use Rattle.rules.specs.Codes.{zeroCode, codeOf, withCode, closed, countOf, withCount};
 
 // A code of all zeros.
 pub fn zero_code() -> Code
@@ -44,4 +45,38 @@ pub fn closed(codes: [Code; 3], number: usize) -> [Code; 3]
     let mut code = code_of(codes, number);
     code.verified = false;
     with_code(codes, number, code)
+}
+
+// Where the unblocking count of a PIN stands: PIN1's first.
+fn place_of(pin: usize) -> usize
+    ensures { λ r. ⌜ r ≡ pin - 1 ⌝ }
+{
+    if pin == 0 {
+        return 0;
+    }
+    pin - 1
+}
+
+// The unblocking count of a PIN; 0 where there is none.
+pub fn count_of(counts: [u8; 2], pin: usize) -> u8
+    ensures { λ r. ⌜ r ≡ countOf counts pin ⌝ }
+{
+    let place = place_of(pin);
+    if place < 2 {
+        return counts[place];
+    }
+    0
+}
+
+// The unblocking counts with that of a PIN replaced; as they are where there is none.
+pub fn with_count(counts: [u8; 2], pin: usize, n: u8) -> [u8; 2]
+    ensures { λ r. ⌜ r ≡ withCount counts pin n ⌝ }
+{
+    let place = place_of(pin);
+    if 2 <= place {
+        return counts;
+    }
+    let mut next = counts;
+    next[place] = n;
+    next
 }

@@ -5,4 +5,4 @@ use Rattle.cases.proofs.Rules.{rules}
 
 pub counts-shown : CountsShown
 unfolding rules tallies
-counts-shown = record { counts = refl; tries = refl }
+counts-shown = record { counts = refl; tries = refl; limits = refl }

@@ -3,12 +3,12 @@
 use Prim.Native.Nat.{ℕ}
 use mathlib.Core.Path.{_≡_}
 use mathlib.Core.List.{List, [], _∷_, _++_, map}
-use lib.ListN.{replicate}
+use lib.ListN.{take, replicate}
 use Rattle.octets.specs.Octets.{Bytes}
 use Rattle.rules.specs.Numbers.{edge, responded, handedOut, wasReset}
 use Rattle.rules.specs.Codes.{PUK, PIN1, PIN2}
 use Rattle.rules.specs.Counting.{Call, PowerReset, Exchange, wrongAnswers, restorations, unblockings}
-use Rattle.rules.specs.Counting.{pin2Presentations, pin2Changes, signatures, triesAtLoad}
+use Rattle.rules.specs.Counting.{pin2Presentations, pin2Changes, signatures, triesAtLoad, countAtLoad}
 use Rattle.rules.specs.Sample.{sampleImage}
 use Rattle.rules.specs.Cases.{deliverTo, verifyOf, signSha1, send}
 use Rattle.cases.specs.SecondCard.{secondImage}
@@ -175,3 +175,8 @@ pub record CountsShown : Type 0 where
   pub tries :
       map (triesAtLoad sampleImage) (PUK ∷ PIN1 ∷ PIN2 ∷ []) ++ map (triesAtLoad secondImage) (PUK ∷ PIN1 ∷ PIN2 ∷ [])
       ≡ 3 ∷ 3 ∷ 3 ∷ 3 ∷ 2 ∷ 1 ∷ []
+  -- so are unblocking counts at load; A5h where there is no section (02, wish 6)
+  pub limits :
+      map (λ image. countAtLoad image PIN1 ∷ countAtLoad image PIN2 ∷ [])
+      (sampleImage ∷ secondImage ∷ take 624 secondImage ∷ (sampleImage ++ 2 ∷ 0 ∷ 0xA5 ∷ []) ∷ (sampleImage ++ 2 ∷ 0xA4 ∷ 0 ∷ []) ∷ [])
+      ≡ (0xA5 ∷ 0xA5 ∷ []) ∷ (5 ∷ 1 ∷ []) ∷ (0xA5 ∷ 0xA5 ∷ []) ∷ (0 ∷ 0xA5 ∷ []) ∷ (0xA4 ∷ 0 ∷ []) ∷ []

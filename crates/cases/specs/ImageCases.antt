@@ -65,6 +65,12 @@ counts =
     -- personal
     ∷ having 51 (15 ∷ [])
     ∷ having 51 (17 ∷ [])
+    -- unblocking counts (02, wish 6): a byte behind the personal records that is not 2, whatever follows
+    ∷ (sampleImage ++ 1 ∷ 0 ∷ [])
+    ∷ (sampleImage ++ 3 ∷ 0 ∷ 0 ∷ 0 ∷ [])
+    ∷ (sampleImage ++ 0x00 ∷ [])
+    ∷ (sampleImage ++ sampleImage)
+    ∷ (take 624 secondImage ++ 0xFF ∷ [])
     ∷ []
 
 -- 23: code length, digit or tries over 3, at once as it is read.
@@ -139,11 +145,32 @@ wrongRecords =
     ∷ cutAt 82 (65 ∷ [])
     ∷ []
 
--- 27: bytes left over.
+-- The sample image with a section of unblocking counts.
+abbrev pub limited : ℕ → ℕ → Bytes
+limited a b = sampleImage ++ 2 ∷ a ∷ b ∷ []
+
+-- 28: an unblocking count over A5h, at once as it is read; A5h twice, after the second byte and before bytes left over.
+unfoldable pub wrongLimits : List Bytes
+wrongLimits =
+    (sampleImage ++ 2 ∷ 0xA6 ∷ [])
+    ∷ (sampleImage ++ 2 ∷ 0xFF ∷ [])
+    ∷ limited 0xA6 0
+    ∷ limited 0 0xA6
+    ∷ limited 0xA5 0xFF
+    ∷ limited 0xA6 0xA6
+    ∷ limited 0xA5 0xA5
+    ∷ (limited 0xA5 0xA5 ++ 0 ∷ [])
+    ∷ (limited 0xA6 0 ++ 0 ∷ [])
+    ∷ (take 624 secondImage ++ 2 ∷ 0xA5 ∷ 0xA5 ∷ [])
+    ∷ (take 624 secondImage ++ 2 ∷ 5 ∷ 0xA6 ∷ [])
+    ∷ []
+
+-- 27: bytes left over, behind a section of unblocking counts.
 unfoldable pub leftOver : List Bytes
 leftOver =
-    (sampleImage ++ 0x00 ∷ [])
-    ∷ (sampleImage ++ sampleImage)
+    (limited 0 0 ++ 0x00 ∷ [])
+    ∷ (limited 0xA5 0 ++ 2 ∷ 0 ∷ 0 ∷ [])
+    ∷ (limited 0 0xA5 ++ sampleImage)
     ∷ (secondImage ++ 0xFF ∷ [])
     ∷ []
 
@@ -156,6 +183,11 @@ early =
     ∷ cutAt 27 (0x01 ∷ [])
     ∷ cutAt 30 (replicate 20 0x00)
     ∷ cutAt 52 (64 ∷ replicate 63 0x20)
+    -- a missing unblocking count, the first and the second (02, wish 6)
+    ∷ (sampleImage ++ 2 ∷ [])
+    ∷ (sampleImage ++ 2 ∷ 0 ∷ [])
+    ∷ (sampleImage ++ 2 ∷ 0xA5 ∷ [])
+    ∷ (take 626 secondImage)
     ∷ []
 
 -- The bytes that are not answered by a number where they end an image: what a place takes.
@@ -188,12 +220,19 @@ placeRanges =
     ∷ taken 22 (λ x. cutAt 51 (x ∷ [])) is (16 ∷ [])
     ∷ taken 26 (λ x. cutAt 52 (x ∷ [])) is counted 64 1
     ∷ taken 26 (λ x. cutAt 82 (x ∷ [])) is counted 64 1
+    -- the count of the unblocking counts, 2; each 0 to A5h, but not A5h twice
+    ∷ taken 22 (λ x. sampleImage ++ x ∷ []) is (2 ∷ [])
+    ∷ taken 28 (λ x. sampleImage ++ 2 ∷ x ∷ []) is counted 166 0
+    ∷ taken 28 (limited 0) is counted 166 0
+    ∷ taken 28 (limited 0xA5) is counted 165 0
+    ∷ taken 28 (λ x. limited x 0xA5) is counted 165 0
     ∷ []
 
 -- The first fault in reading order: of two, the one that stands first.
 unfoldable pub twice : List (Fact ℕ)
 twice =
-    -- 22 before 23; 23 before 22; 22 before 24; 24 before 25; 25 before 22; 22 before 26; 26 before 27
+    -- 22 before 23; 23 before 22; 22 before 24; 24 before 25; 25 before 22; 22 before 26; 26 before 22 and 28; 22 before 28;
+    -- 28 before 27
     numberOf (0x04 ∷ 0x07 ∷ []) is 22
     ∷ numberOf (0x03 ∷ 0x07 ∷ replicate 30 0x00) is 23
     ∷ numberOf (cutAt 24 (5 ∷ 0x03 ∷ 0x00 ∷ [])) is 22
@@ -201,13 +240,18 @@ twice =
     ∷ numberOf (cutAt 30 (replicate 21 0x00 ++ 17 ∷ 65 ∷ [])) is 25
     ∷ numberOf (cutAt 51 (17 ∷ 65 ∷ [])) is 22
     ∷ numberOf (having 82 (65 ∷ []) ++ 0x00 ∷ []) is 26
+    ∷ numberOf (having 82 (65 ∷ []) ++ 2 ∷ 0xA6 ∷ []) is 26
+    ∷ numberOf (sampleImage ++ 3 ∷ 0xA6 ∷ 0 ∷ []) is 22
+    ∷ numberOf (limited 0xA5 0xA6 ++ 0 ∷ []) is 28
     ∷ []
 
--- What load gives, in short: its number; each code's length and tries; the key marks; each record's length.
+-- What load gives, in short: its number; each code's length and tries; the unblocking counts; the key marks; each
+-- record's length.
 pub record Summary : Type 0 where
   pub number : ℕ
   pub lengths : List ℕ
   pub tries : List ℕ
+  pub counts : List ℕ
   pub keys : List Bool
   pub records : List ℕ
 
@@ -217,28 +261,38 @@ summary r =
       number = r .0;
       lengths = map (λ v. v .len) (r .1 .codes);
       tries = map (λ v. v .tries) (r .1 .codes);
+      counts = r .1 .counts;
       keys = r .1 .profile .keys;
       records = map (λ x. x .len) (r .1 .profile .personal);
     }
 
-abbrev pub says : List ℕ → List ℕ → List Bool → ℕ → Summary
-says lengths tries keys n =
-    record { number = 0; lengths = lengths; tries = tries; keys = keys; records = replicate 16 n }
+abbrev pub limits : List ℕ → List ℕ → List ℕ → List Bool → ℕ → Summary
+limits lengths tries counts keys n =
+    record { number = 0; lengths = lengths; tries = tries; counts = counts; keys = keys; records = replicate 16 n }
 
--- The greatest image: codes of 12, four keys, records of 64.
+abbrev pub says : List ℕ → List ℕ → List Bool → ℕ → Summary
+says lengths tries = limits lengths tries (0xA5 ∷ 0xA5 ∷ [])
+
+-- The greatest image: codes of 12, four keys, records of 64, unblocking counts.
 abbrev pub greatest : Bytes
 greatest =
     3 ∷ (codeIn (fives 12) 3 ++ (codeIn (fives 12) 3 ++ codeIn (fives 12) 3))
     ++ 4 ∷ 0x01 ∷ 0x00 ∷ 0x02 ∷ 0x00 ∷ 0x11 ∷ 0x00 ∷ 0x12 ∷ 0x00 ∷ []
     ++ 21 ∷ references
     ++ 16 ∷ textsIn (replicate 16 (fives 64))
+    ++ 2 ∷ 0 ∷ 0xA4 ∷ []
 
 unfoldable pub accepted : List (Fact Summary)
 accepted =
     -- 84 bytes: codes of least length, two keys, records of 1
     summary (load sampleImage) is says (8 ∷ 4 ∷ 5 ∷ []) (3 ∷ 3 ∷ 3 ∷ []) (true ∷ false ∷ true ∷ false ∷ []) 1
-    -- 1,115 bytes
-    ∷ summary (load greatest) is says (12 ∷ 12 ∷ 12 ∷ []) (3 ∷ 3 ∷ 3 ∷ []) (true ∷ true ∷ true ∷ true ∷ []) 64
+    -- 1,118 bytes
+    ∷ summary (load greatest) is limits (12 ∷ 12 ∷ 12 ∷ []) (3 ∷ 3 ∷ 3 ∷ []) (0 ∷ 0xA4 ∷ []) (true ∷ true ∷ true ∷ true ∷ []) 64
+    -- unblocking counts 0 to A5h for each PIN; 87 bytes
+    ∷ summary (load (limited 0 0)) is limits (8 ∷ 4 ∷ 5 ∷ []) (3 ∷ 3 ∷ 3 ∷ []) (0 ∷ 0 ∷ []) (true ∷ false ∷ true ∷ false ∷ []) 1
+    ∷ summary (load (limited 0xA5 0)) is limits (8 ∷ 4 ∷ 5 ∷ []) (3 ∷ 3 ∷ 3 ∷ []) (0xA5 ∷ 0 ∷ []) (true ∷ false ∷ true ∷ false ∷ []) 1
+    ∷ summary (load (limited 0 0xA5)) is limits (8 ∷ 4 ∷ 5 ∷ []) (3 ∷ 3 ∷ 3 ∷ []) (0 ∷ 0xA5 ∷ []) (true ∷ false ∷ true ∷ false ∷ []) 1
+    ∷ summary (load (limited 0xA4 1)) is limits (8 ∷ 4 ∷ 5 ∷ []) (3 ∷ 3 ∷ 3 ∷ []) (0xA4 ∷ 1 ∷ []) (true ∷ false ∷ true ∷ false ∷ []) 1
     -- one code of greatest length, the others of least; tries 0 to 3 on each; digits 30h and 39h
     ∷ summary (load (withCodesIn (codeIn (nines 12) 0) (codeIn (nines 4) 1) (codeIn (replicate 5 0x30) 2))) is
     says (12 ∷ 4 ∷ 5 ∷ []) (0 ∷ 1 ∷ 2 ∷ []) (true ∷ false ∷ true ∷ false ∷ []) 1
@@ -266,6 +320,7 @@ abbrev pub allZero : Card
 allZero =
     record {
       codes = replicate 3 (record { digits = replicate 12 0; len = 0; tries = 0; verified = false });
+      counts = replicate 2 0;
       profile = record {
         keys = replicate 4 false;
         references = replicate 21 0;
@@ -287,12 +342,13 @@ pub record ImagesShown : Type 0 where
   pub keys : numbers wrongKeys ≡ replicate (length wrongKeys) 24
   pub references : numbers wrongReferences ≡ replicate (length wrongReferences) 25
   pub records : numbers wrongRecords ≡ replicate (length wrongRecords) 26
+  pub limits : numbers wrongLimits ≡ replicate (length wrongLimits) 28
   pub leftOver : numbers leftOver ≡ replicate (length leftOver) 27
   pub early : numbers early ≡ replicate (length early) 21
   pub places : Holds placeRanges
   pub first : Holds twice
-  -- both ends of each range, and the sizes 84 and 1,115
+  -- both ends of each range, and the sizes 84, 87 and 1,118
   pub accepted : Holds accepted
-  pub sizes : length sampleImage ∷ length greatest ∷ [] ≡ 84 ∷ 1115 ∷ []
+  pub sizes : length sampleImage ∷ length (limited 0 0) ∷ length greatest ∷ [] ≡ 84 ∷ 87 ∷ 1118 ∷ []
   -- a refused image gives a number beside an all-zero state
   pub nothing : load (0x02 ∷ []) ≡ (22, allZero)

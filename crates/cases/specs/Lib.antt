@@ -6,6 +6,7 @@ pub mod FileCases
 pub mod ReadingCases
 pub mod CodeCases
 pub mod UnblockingCases
+pub mod LimitCases
 pub mod KeyCases
 pub mod JobCases
 pub mod DeliveryCases

@@ -1,6 +1,6 @@
--- A second card, beside the sample card. Codes: PUK of 12 digits, PIN1 of 4, PIN2 of 12, with 3, 2 and 1 tries. All
--- four keys, 0200h and 1200h active. Sixteen different personal records of 1 to 64 bytes. No byte of 0033h that names
--- no key is zero.
+-- A second card, beside the sample card. Codes: PUK of 12 digits, PIN1 of 4, PIN2 of 12, with 3, 2 and 1 tries. The
+-- unblocking counts 5 and 1. All four keys, 0200h and 1200h active. Sixteen different personal records of 1 to 64
+-- bytes. No byte of 0033h that names no key is zero.
 use Prim.Native.Nat.{ℕ, _+_, _-_, _*_}
 use mathlib.Core.Path.{_≡_}
 use mathlib.Core.Bool.{true, false}
@@ -44,6 +44,7 @@ unfoldable pub secondCard : Card
 secondCard =
     record {
       codes = storing secondPuk 3 false ∷ storing secondPin1 2 false ∷ storing secondPin2 1 false ∷ [];
+      counts = 5 ∷ 1 ∷ [];
       profile = record {
         keys = true ∷ true ∷ true ∷ true ∷ [];
         references = secondReferences;
@@ -64,6 +65,7 @@ secondImage =
     ++ 4 ∷ 0x01 ∷ 0x00 ∷ 0x02 ∷ 0x00 ∷ 0x11 ∷ 0x00 ∷ 0x12 ∷ 0x00 ∷ []
     ++ 21 ∷ secondReferences
     ++ 16 ∷ textsIn texts
+    ++ 2 ∷ 5 ∷ 1 ∷ []
 
 -- The image loads, number 0, as the second card.
 abbrev pub SecondLoads : Type 0

@@ -1,4 +1,6 @@
--- What opens a code and what closes it, by the code sheet (document 02, wish 4), and what RESET RETRY leaves and promises.
+-- What opens a code and what closes it, by the code sheet (document 02, wish 4), what RESET RETRY leaves and promises,
+-- and what moves an unblocking count (wish 6).
+use Prim.Native.Nat.{ℕ}
 use mathlib.Core.Bool.{Bool, true, false}
 use mathlib.Core.List.{List, [], _∷_}
 use Rattle.rules.specs.declared.Code.{Code}
@@ -7,7 +9,7 @@ use Rattle.rules.specs.Codes.{PUK, PIN1, PIN2, storing, codeOf}
 use Rattle.rules.specs.Answers.{codeStatus}
 use Rattle.rules.specs.CodeCommands.{unblocked, LeavesClosed}
 use Rattle.rules.specs.Counting.{PowerReset}
-use Rattle.rules.specs.CodeSheet.{opens, closes, verifiedAfter}
+use Rattle.rules.specs.CodeSheet.{opens, closes, verifiedAfter, countAfter}
 use Rattle.rules.specs.Cases.{asking, signSha1}
 use Rattle.cases.specs.Turns.{fives, sampleMarks, Fact, _is_, Holds}
 use Rattle.cases.specs.CountCases.{answered, handed, refusedWith, verifying, changing, presenting, unblocking}
@@ -62,11 +64,35 @@ moved =
     ∷ codeOf (unblocked (sampleMarks true true true .codes) PIN1 (storing (fives 4) 3 true) 3) PIN2 .verified is true
     ∷ []
 
+-- The unblocking count after an exchange, by the code sheet (document 02, wish 6).
+unfoldable pub lowerings : List (Fact ℕ)
+lowerings =
+    countAfter PIN1 (answered (unblocking PIN1) 0x90 0x00) 3 is 2
+    ∷ countAfter PIN1 (answered (presenting PIN1) 0x90 0x00) 1 is 0
+    ∷ countAfter PIN2 (answered (presenting PIN2) 0x90 0x00) 0xA4 is 0xA3
+    ∷ countAfter PIN2 (answered (unblocking PIN2) 0x90 0x00) 0xA5 is 0xA5
+    ∷ countAfter PIN1 (answered (unblocking PIN2) 0x90 0x00) 3 is 3
+    ∷ countAfter PIN2 (answered (presenting PIN1) 0x90 0x00) 3 is 3
+    ∷ countAfter PIN1 (answered (presenting PIN1) 0x63 0xC2) 3 is 3
+    ∷ countAfter PIN1 (answered (presenting PIN1) 0x6A 0x80) 3 is 3
+    ∷ countAfter PIN1 (answered (presenting PIN1) 0x69 0x83) 3 is 3
+    ∷ countAfter PIN1 (answered (unblocking PIN1) 0x69 0x82) 3 is 3
+    ∷ countAfter PIN1 (answered (unblocking PIN1) 0x6A 0x86) 3 is 3
+    ∷ countAfter PIN1 (answered (verifying PIN1) 0x90 0x00) 3 is 3
+    ∷ countAfter PIN1 (answered (changing PIN1) 0x90 0x00) 3 is 3
+    ∷ countAfter PIN1 (answered (verifying PIN1) 0x63 0xC0) 3 is 3
+    ∷ countAfter PIN2 (answered (changing PIN2) 0x63 0xC2) 3 is 3
+    ∷ countAfter PIN2 (handed signSha1 2) 3 is 3
+    ∷ countAfter PIN1 (refusedWith (unblocking PIN1) (0x90 ∷ 0x00 ∷ [])) 3 is 3
+    ∷ countAfter PIN1 (record { call = PowerReset; returned = wasReset; buffer = [] }) 3 is 3
+    ∷ []
+
 -- What 2C promises for PIN1, of codes answered 9000. What 2C promises is not true of them where PIN1 or PUK is open.
 abbrev pub Promised : List Code → Type 0
 Promised codes = LeavesClosed codes PIN1 (codeStatus codes 0x9000)
 
 pub record SheetShown : Type 0 where
   pub moves : Holds moved
+  pub lowers : Holds lowerings
   pub pinOpen : ¬ Promised (sampleMarks false true false .codes)
   pub pukOpen : ¬ Promised (sampleMarks true false false .codes)

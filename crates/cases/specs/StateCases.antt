@@ -15,7 +15,7 @@ use Rattle.rules.specs.Numbers.{Returned, edge, responded, wasReset}
 use Rattle.rules.specs.Session.{newSession, withEnvironment, withHeld, withJob}
 use Rattle.rules.specs.Counting.{PowerReset, step}
 use Rattle.rules.specs.Sample.{sampleCard, references}
-use Rattle.rules.specs.Cases.{send, deliverTo}
+use Rattle.rules.specs.Cases.{withCounts, send, deliverTo}
 use Rattle.cases.specs.SecondCard.{secondCard}
 use Rattle.cases.specs.Turns.{fives, nines, counted, withSession, withCodes, secondOpen, at, inEnvironment, chained}
 use Rattle.cases.specs.Turns.{waiting}
@@ -39,7 +39,7 @@ abbrev pub withPin2 : Code → Card
 withPin2 v = withCodes sampleCard (set (sampleCard .codes) 2 v)
 
 abbrev pub withProfile : Profile → Card
-withProfile p = record { codes = sampleCard .codes; profile = p; session = sampleCard .session }
+withProfile p = record { codes = sampleCard .codes; counts = sampleCard .counts; profile = p; session = sampleCard .session }
 
 abbrev pub profileOf : List Bool → Bytes → List Record → Profile
 profileOf keys d personal = record { keys = keys; references = d; personal = personal }
@@ -131,10 +131,27 @@ badRecords =
     ∷ record { bytes = 0x20 ∷ (zeros 62 ++ 0x01 ∷ []); len = 1 }
     ∷ []
 
+-- Unblocking counts that are bad, and good: both ends of each.
+abbrev pub badCounts : List (List ℕ)
+badCounts =
+    (0xA6 ∷ 0 ∷ [])
+    ∷ (0 ∷ 0xA6 ∷ [])
+    ∷ (0xFF ∷ 0xA5 ∷ [])
+    ∷ (0xA5 ∷ 0xFF ∷ [])
+    ∷ (0xA5 ∷ [])
+    ∷ (0xA5 ∷ 0xA5 ∷ 0xA5 ∷ [])
+    ∷ (0 ∷ 0 ∷ 0 ∷ [])
+    ∷ []
+
+abbrev pub allowedCounts : List (List ℕ)
+allowedCounts = (0 ∷ 0 ∷ []) ∷ (0 ∷ 0xA5 ∷ []) ∷ (0xA5 ∷ 0 ∷ []) ∷ (0xA4 ∷ 0xA4 ∷ []) ∷ (0x0F ∷ 0x10 ∷ []) ∷ []
+
 unfoldable pub bad : List Card
 bad =
     -- each code, of 8, 4 or 5 to 12 digits, 0 to 3 tries, verified implies 3 tries, zeros in unused places
     map withPuk (badCodes 8) ++ map withPin1 (badCodes 4) ++ map withPin2 (badCodes 5)
+    -- the unblocking counts: A6h and FFh for either; one count, three
+    ++ map (withCounts sampleCard) badCounts
     -- 0033h: 20 bytes, 22 bytes
     ++ withReferences (zeros 9 ++ 0x11 ∷ 0x00 ∷ (zeros 8 ++ 0x01 ∷ []))
     ∷ withReferences (references ++ 0x00 ∷ [])
@@ -224,6 +241,7 @@ secondChoices n choices = withSession secondCard (withEnvironment newSession n c
 unfoldable pub idle : List Card
 idle =
     map withPuk (allowedCodes 8) ++ map withPin1 (allowedCodes 4) ++ map withPin2 (allowedCodes 5)
+    ++ map (withCounts sampleCard) allowedCounts
     -- personal records of one byte, which may be zero, and of 64
     ++ withRecord 1 (record { bytes = zeros 64; len = 1 })
     ∷ withRecord 16 (record { bytes = fives 64; len = 64 })

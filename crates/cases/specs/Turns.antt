@@ -102,10 +102,10 @@ nines n = replicate n 0x39
 
 -- A card with another session; the sample card and the second card with other codes.
 abbrev pub withSession : Card → Session → Card
-withSession c s = record { codes = c .codes; profile = c .profile; session = s }
+withSession c s = record { codes = c .codes; counts = c .counts; profile = c .profile; session = s }
 
 abbrev pub withCodes : Card → List Code → Card
-withCodes c codes = record { codes = codes; profile = c .profile; session = c .session }
+withCodes c codes = record { codes = codes; counts = c .counts; profile = c .profile; session = c .session }
 
 -- The sample card with other tries; with marks on (3 tries each).
 abbrev pub sampleTries : ℕ → ℕ → ℕ → Card

@@ -35,6 +35,6 @@ module _ (codes : List Code) (k j : ℕ) (new : Bytes) (stored : Code → List C
   replaced-whole NoTries = refl
 
 -- An answer that is RESET RETRY's keeps the promise besides.
-pub promised : (codes : List Code) (h : Header) (d : Bytes) (r : CodeStep) → r ≡ resetRetry codes h d
-    → (r ≡ resetRetry codes h d) × LeavesClosed codes (h .p2) r
-promised codes h d r e = (e, rw e (reset-closes codes h d))
+pub promised : (codes : List Code) (counts : List ℕ) (h : Header) (d : Bytes) (r : CodeStep) → r ≡ resetRetry codes counts h d
+    → (r ≡ resetRetry codes counts h d) × LeavesClosed codes (h .p2) r
+promised codes counts h d r e = (e, rw e (reset-closes codes counts h d))

@@ -1,4 +1,5 @@
-// VERIFY, CHANGE REFERENCE DATA and RESET RETRY COUNTER, as functions of the codes: the codes afterwards and a status word.
+// VERIFY, CHANGE REFERENCE DATA and RESET RETRY COUNTER, as functions of the codes: the codes afterwards and a status word. And the
+// unblocking counts after RESET RETRY COUNTER.
 use rules::Code;
 use rules::CodeStep;
 use rules::Header;
@@ -6,11 +7,11 @@ use rules::Verdict;
 ghost use mathlib.Core.Path.{_≡_};
 ghost use Prim.Native.Nat.{_+_, _-_};
 ghost use lib.ListN.{take, drop};
-ghost use Rattle.rules.specs.Codes.{marked};
+ghost use Rattle.rules.specs.Codes.{marked, lowered};
 ghost use Rattle.rules.specs.Answers.{codeStatus};
 ghost use Rattle.rules.specs.CodeCommands.{verdict, judged, queried, verify, replaced};
 ghost use Rattle.rules.specs.CodeCommands.{change, unblocked, LeavesClosed};
-ghost use Rattle.rules.specs.CodeCommands.{unblockByVerifiedPuk, unblockByPresentedPuk, resetRetry};
+ghost use Rattle.rules.specs.CodeCommands.{unblockByVerifiedPuk, unblockByPresentedPuk, resetRetry, countsLeft};
 
 // A status word alone.
 fn code_status(codes: [Code; 3], sw: u16) -> CodeStep
@@ -89,14 +90,14 @@ fn judged(codes: [Code; 3], number: usize, found: Verdict) -> CodeStep
 fn queried(codes: [Code; 3], number: usize) -> CodeStep
     ensures { λ r. ⌜ r ≡ queried codes number ⌝ }
 {
-    let code = card_codes::code_of(codes, number);
-    if code.tries == 0 {
+    let asked = card_codes::code_of(codes, number);
+    if asked.tries == 0 {
         return code_status(codes, 0x6983);
     }
-    if code.verified {
+    if asked.verified {
         return code_status(codes, 0x9000);
     }
-    code_status(codes, wrong_status(code.tries))
+    code_status(codes, wrong_status(asked.tries))
 }
 
 // 20 VERIFY: without data it asks, with data the value is judged.
@@ -197,16 +198,41 @@ fn unblock_by_presented_puk(codes: [Code; 3], pin: usize, values: &[u8]) -> Code
 }
 
 // 2C RESET RETRY. Its promise says itself that 9000 leaves the PIN and PUK closed.
-pub fn reset_retry(codes: [Code; 3], h: Header, values: &[u8]) -> CodeStep
-    ensures { λ r. ⌜ (r ≡ resetRetry codes h (now (values .entry))) × LeavesClosed codes (h .p2) r ⌝ }
+pub fn reset_retry(codes: [Code; 3], counts: [u8; 2], h: Header, values: &[u8]) -> CodeStep
+    ensures { λ r. ⌜ (r ≡ resetRetry codes counts h (now (values .entry))) × LeavesClosed codes (h .p2) r ⌝ }
 {
     let pin = numbers::wide(h.p2);
     let code = card_codes::code_of(codes, pin);
     if code.tries != 0 {
         return code_status(codes, 0x6A86);
     }
+    if card_codes::count_of(counts, pin) == 0 {
+        return code_status(codes, 0x6983);
+    }
     if h.p1 == 0x03 {
         return unblock_by_verified_puk(codes, pin);
     }
     unblock_by_presented_puk(codes, pin, values)
+}
+
+// An unblocking count after an unblocking: one less, unless there is no limit.
+fn lowered(n: u8) -> u8
+    ensures { λ r. ⌜ r ≡ lowered n ⌝ }
+{
+    if n == Code::NO_LIMIT {
+        return n;
+    }
+    one_less(n)
+}
+
+// The unblocking counts after a 2C that was answered by a status word: 9000 lowers that of the PIN.
+pub fn counts_left(counts: [u8; 2], h: Header, sw: u16) -> [u8; 2]
+    ensures { λ r. ⌜ r ≡ countsLeft counts (h .p2) sw ⌝ }
+{
+    if sw != 0x9000 {
+        return counts;
+    }
+    let pin = numbers::wide(h.p2);
+    let left = lowered(card_codes::count_of(counts, pin));
+    card_codes::with_count(counts, pin, left)
 }

@@ -15,5 +15,6 @@ pub fn number(fault: Fault) -> u8
         Fault::BadReference => 25,
         Fault::RecordLength => 26,
         Fault::LeftOver => 27,
+        Fault::UnblockingCount => 28,
     }
 }

@@ -14,7 +14,7 @@ ghost use lib.ListN.{length};
 ghost use lib.Dec.{eqb};
 ghost use mathlib.Core.Bool.{_||_};
 ghost use Rattle.rules.specs.Keys.{usable};
-ghost use Rattle.rules.specs.State.{goodCodes, goodReferences, goodRecord, goodRecords, goodProfile, good};
+ghost use Rattle.rules.specs.State.{goodCodes, goodCounts, goodReferences, goodRecord, goodRecords, goodProfile, good};
 ghost use Rattle.rules.specs.State.{goodSelection, goodEnvironment, goodHeld, goodChain, goodJob, goodSession};
 
 // The three codes.
@@ -25,6 +25,15 @@ fn good_codes(codes: [Code; 3]) -> bool
     let pin1 = codes::good_code(Code::PIN1, card_codes::code_of(codes, Code::PIN1));
     let pin2 = codes::good_code(Code::PIN2, card_codes::code_of(codes, Code::PIN2));
     puk & (pin1 & pin2)
+}
+
+// The two unblocking counts.
+fn good_counts(counts: [u8; 2]) -> bool
+    ensures { λ r. ⌜ r ≡ goodCounts counts ⌝ }
+{
+    let pin1 = card_codes::count_of(counts, Code::PIN1);
+    let pin2 = card_codes::count_of(counts, Code::PIN2);
+    (pin1 <= Code::NO_LIMIT) & (pin2 <= Code::NO_LIMIT)
 }
 
 // The record of 0033h.
@@ -164,10 +173,12 @@ pub fn good(card: Card) -> bool
     ensures { λ r. ⌜ r ≡ good card ⌝ }
 {
     let codes = card.codes;
+    let counts = card.counts;
     let profile = card.profile;
     let keys = profile.keys;
     let codes_good = good_codes(codes);
+    let counts_good = good_counts(counts);
     let profile_good = good_profile(profile);
     let session_good = good_session(keys, card.session);
-    codes_good & (profile_good & session_good)
+    codes_good & (counts_good & (profile_good & session_good))
 }

@@ -4,4 +4,5 @@ pub mod Codes
 pub mod Keys
 pub mod References
 pub mod Records
+pub mod Counts
 pub mod Loading

@@ -14,6 +14,7 @@ use Rattle.octets.proofs.Tests.{by-test}
 use Rattle.rules.specs.declared.Fault.{Fault}
 use Rattle.rules.specs.declared.Fault.the-variants.{EndsEarly, WrongCount, LeftOver}
 use Rattle.rules.specs.Numbers.{faultNumber}
+use Rattle.rules.specs.Codes.{noLimits}
 use Rattle.rules.specs.Image.{
   Read,
   got,
@@ -28,6 +29,8 @@ use Rattle.rules.specs.Image.{
   anyByte,
   bytesIf,
   count,
+  countSection,
+  readCounts,
   end,
 }
 use Rattle.image_reader.specs.declared.NextByte.{NextByte}
@@ -116,6 +119,15 @@ module _ (image : Bytes) (at : ℕ) (next : NextByte) (place : ℕ)
   pub at-end : next ≡ End → upTo image (At at) true ≡ from image c end
   unfolding from end
   at-end e = rw (here, past-end e)
+
+  -- the unblocking counts: none, or a section
+  pub counts-ended : next ≡ End → upTo image (At at) noLimits ≡ from image c readCounts
+  unfolding from readCounts
+  counts-ended e = rw (here, past-end e)
+
+  pub counts-there : {x : ℕ} → next ≡ Byte x → from image (At at) countSection ≡ from image c readCounts
+  unfolding from readCounts
+  counts-there e = let h : at < length image = byte-there e in rw (here, drop-cons image at 0)
 
   pub left-over : {x : ℕ} → next ≡ Byte x → upTo image (Stopped LeftOver) true ≡ from image c end
   unfolding from end

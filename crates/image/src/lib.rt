@@ -16,7 +16,7 @@ ghost use Rattle.rules.specs.declared.Card.{Card};
 ghost use Rattle.rules.specs.Numbers.{kindNumber, faultNumber, loadNumber};
 ghost use Rattle.rules.specs.Keys.{usable, activeKey};
 ghost use Rattle.rules.specs.Image.{byteIf, anyByte, bytesIf, anyBytes, count, end, readCode, readKey, readPersonal, readRecords};
-ghost use Rattle.rules.specs.Image.{codeSection, keySection, referenceSection, personalSection, cardOf, load};
+ghost use Rattle.rules.specs.Image.{codeSection, keySection, referenceSection, personalSection, countSection, readCounts, cardOf, load};
 ghost use Rattle.image.specs.Cursors.{from, upTo, required, within};
 ghost use Rattle.image.specs.Marks.{withMark, markedKeys};
 
@@ -60,6 +60,11 @@ struct ReadKeys {
 
 struct ReadReferences {
     references: [u8; 21],
+    cursor: Cursor,
+}
+
+struct ReadCounts {
+    counts: [u8; 2],
     cursor: Cursor,
 }
 
@@ -384,11 +389,53 @@ fn personal_section(image: &[u8], cursor: Cursor) -> ReadRecords
     read_records(image, first)
 }
 
+// The unblocking counts, after their count. That neither has a limit is refused after the second.
+fn count_section(image: &[u8], cursor: Cursor) -> ReadCounts
+    ensures { λ r. ⌜ upTo (now (image .entry)) (r .cursor) (r .counts) ≡ from (now (image .entry)) cursor countSection ⌝ }
+{
+    let most = numbers::wide(Code::NO_LIMIT);
+    let first = count(image, cursor, 2);
+    let pin1 = byte_within(image, first, 0, most, Fault::UnblockingCount);
+    let after_pin1 = pin1.cursor;
+    let pin2 = byte_within(image, after_pin1, 0, most, Fault::UnblockingCount);
+    let last = pin2.cursor;
+    let unlimited = (pin1.byte == Code::NO_LIMIT) & (pin2.byte == Code::NO_LIMIT);
+    let after = required(last, !unlimited, Fault::UnblockingCount);
+    ReadCounts {
+        counts: [pin1.byte, pin2.byte],
+        cursor: after,
+    }
+}
+
+// The unblocking counts; where the image has ended there is no limit.
+fn read_counts(image: &[u8], cursor: Cursor) -> ReadCounts
+    ensures { λ r. ⌜ upTo (now (image .entry)) (r .cursor) (r .counts) ≡ from (now (image .entry)) cursor readCounts ⌝ }
+{
+    match cursor {
+        Cursor::Stopped(first) => ReadCounts {
+            counts: [Code::NO_LIMIT, Code::NO_LIMIT],
+            cursor: Cursor::Stopped(first),
+        },
+        Cursor::At(at) => {
+            let found = image_reader::read_at(image, at);
+            let next = found.next;
+            match next {
+                NextByte::Byte(_) => count_section(image, Cursor::At(at)),
+                NextByte::End => ReadCounts {
+                    counts: [Code::NO_LIMIT, Code::NO_LIMIT],
+                    cursor: Cursor::At(at),
+                },
+            }
+        }
+    }
+}
+
 // The card that was read.
-fn card_of(c: ReadCodes, k: ReadKeys, r: ReadReferences, p: ReadRecords) -> Card
-    ensures { λ card. ⌜ card ≡ cardOf (c .codes) (k .keys) (r .references) (p .personal) ⌝ }
+fn card_of(c: ReadCodes, k: ReadKeys, r: ReadReferences, p: ReadRecords, n: ReadCounts) -> Card
+    ensures { λ card. ⌜ card ≡ cardOf (c .codes) (k .keys) (r .references) (p .personal) (n .counts) ⌝ }
 {
     let codes = c.codes;
+    let counts = n.counts;
     let keys = k.keys;
     let references = r.references;
     let personal = p.personal;
@@ -400,6 +447,7 @@ fn card_of(c: ReadCodes, k: ReadKeys, r: ReadReferences, p: ReadRecords) -> Card
     let session = pending::new_session();
     Card {
         codes: codes,
+        counts: counts,
         profile: profile,
         session: session,
     }
@@ -418,13 +466,21 @@ pub fn load(image: &[u8]) -> Loaded
     let after_references = reference_part.cursor;
     let personal_part = personal_section(image, after_references);
     let after_personal = personal_part.cursor;
-    match end(image, after_personal) {
+    let count_part = read_counts(image, after_personal);
+    let after_counts = count_part.cursor;
+    match end(image, after_counts) {
         Cursor::Stopped(fault) => Loaded {
             card: zero_state::card(),
             result: LoadResult::Faulty(fault),
         },
         Cursor::At(_) => Loaded {
-            card: card_of(code_part, key_part, reference_part, personal_part),
+            card: card_of(
+                code_part,
+                key_part,
+                reference_part,
+                personal_part,
+                count_part,
+            ),
             result: LoadResult::Accepted,
         },
     }

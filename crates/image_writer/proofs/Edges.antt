@@ -15,7 +15,7 @@ use Rattle.rules.specs.State.{good}
 use Rattle.rules.specs.Writer.{imageOf, write}
 use Rattle.rules.proofs.Writing.{image-most, write-whole}
 
-module _ (c : Card) (d : Bytes) (g : good c ≡ true) (room : 1115 ≤ length d) where
+module _ (c : Card) (d : Bytes) (g : good c ≡ true) (room : 1118 ≤ length d) where
   fits : length (imageOf c) ≤ length d
   fits = omega (arith, room, image-most c g)
 

@@ -1,3 +1,4 @@
 pub mod Keys
 pub mod Records
+pub mod Counts
 pub mod Edges

@@ -12,7 +12,7 @@ ghost use Rattle.octets.specs.Octets.{Bytes};
 ghost use Rattle.writing.specs.Puts.{Put};
 ghost use Rattle.rules.specs.Numbers.{Wrote, wroteOf};
 ghost use Rattle.rules.specs.Writer.{codeImage, codesImage, keysAmong, keysOn, keyBytes, keysImage, referencesImage};
-ghost use Rattle.rules.specs.Writer.{recordImage, personalImage, imageOf, write};
+ghost use Rattle.rules.specs.Writer.{recordImage, personalImage, countsImage, imageOf, write};
 
 // One byte.
 fn put_byte(buffer: &mut [u8], at: usize, byte: u8) -> usize
@@ -128,11 +128,25 @@ fn put_personal(buffer: &mut [u8], at: usize, personal: [Record; 16]) -> usize
     end
 }
 
+// The unblocking counts, after their count; nothing where neither has a limit.
+fn put_counts(buffer: &mut [u8], at: usize, counts: [u8; 2]) -> usize
+    ensures { λ r. ⌜ Put (now (buffer .entry)) at (countsImage counts) (now (buffer .exit)) r ⌝ }
+{
+    let pin1 = card_codes::count_of(counts, Code::PIN1);
+    let pin2 = card_codes::count_of(counts, Code::PIN2);
+    if (pin1 == Code::NO_LIMIT) & (pin2 == Code::NO_LIMIT) {
+        return writing::put(buffer, at, b"");
+    }
+    let section = [2, pin1, pin2];
+    writing::put(buffer, at, &section)
+}
+
 // The sections, one behind the other.
 fn put_image(buffer: &mut [u8], card: Card) -> usize
     ensures { λ r. ⌜ Put (now (buffer .entry)) 0 (imageOf card) (now (buffer .exit)) r ⌝ }
 {
     let codes = card.codes;
+    let counts = card.counts;
     let profile = card.profile;
     let keys = profile.keys;
     let references = profile.references;
@@ -140,17 +154,18 @@ fn put_image(buffer: &mut [u8], card: Card) -> usize
     let after_codes = put_codes(buffer, 0, codes);
     let after_keys = put_keys(buffer, after_codes, keys);
     let after_references = put_references(buffer, after_keys, references);
-    put_personal(buffer, after_references, personal)
+    let after_personal = put_personal(buffer, after_references, personal);
+    put_counts(buffer, after_personal, counts)
 }
 
-// Writes the image of a good card to the front of a buffer of at least 1,115 bytes.
+// Writes the image of a good card to the front of a buffer of at least 1,118 bytes.
 pub fn write(card: Card, buffer: &mut [u8]) -> WriteResult
     ensures { λ r. ⌜ _≡_ {A = Wrote × Bytes} (wroteOf r, now (buffer .exit)) (write card (now (buffer .entry))) ⌝ }
 {
     if !good_state::good(card) {
         return WriteResult::NotWritten(Refusal::BadState);
     }
-    if buffer.len() < 1115 {
+    if buffer.len() < 1118 {
         return WriteResult::NotWritten(Refusal::ShortBuffer);
     }
     let len = put_image(buffer, card);

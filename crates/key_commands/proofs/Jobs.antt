@@ -47,22 +47,22 @@ module _ (codes : List Code) (references : Bytes) (s : Session) (h : Header) (d 
 pub digest-fits : (d : Bytes) {digest : Bool} → digest ≡ isDigest d → not digest ≡ false → length d ≤ 245
 digest-fits d i t = digest-forms .short d (sym i ∙ not-false _ t)
 
-module _ (codes : List Code) (references : Bytes) (s : Session) (h : Header) (d : Bytes) {digest : Bool} (i : digest ≡ isDigest d) where
-  pub no-digest : not digest ≡ true → status codes s 0x6A80 ≡ sign codes references s h d
+module _ (codes : List Code) (counts : List ℕ) (references : Bytes) (s : Session) (h : Header) (d : Bytes) {digest : Bool} (i : digest ≡ isDigest d) where
+  pub no-digest : not digest ≡ true → status codes counts s 0x6A80 ≡ sign codes counts references s h d
   unfolding sign
   no-digest t = simp (← i, t)
 
   module _ (t : not digest ≡ false) where
-    pub sign-elsewhere : s .environment .number ≢ 1 → status codes s 0x6985 ≡ sign codes references s h d
+    pub sign-elsewhere : s .environment .number ≢ 1 → status codes counts s 0x6985 ≡ sign codes counts references s h d
     unfolding sign
     sign-elsewhere n = simp (← i, t, ne-eqb (s .environment .number) 1 n)
 
     module _ (e : s .environment .number ≡ 1) {pin : Code} (p : pin ≡ codeOf codes PIN2) where
-      pub sign-closed : not (pin .verified) ≡ true → status codes s 0x6982 ≡ sign codes references s h d
+      pub sign-closed : not (pin .verified) ≡ true → status codes counts s 0x6982 ≡ sign codes counts references s h d
       unfolding sign
       sign-closed v = simp (← i, t, eq-eqb (s .environment .number) 1 e, ← p, v)
 
       pub sign-job : not (pin .verified) ≡ false → {key : ℕ} → key ≡ jobKey references s (kindNumber Sign) → {block : Bytes} → block ≡ padded d
-          → inSession (closed codes PIN2) (handOut s (kindNumber Sign) key (h .le) block) ≡ sign codes references s h d
+          → inSession (closed codes PIN2) counts (handOut s (kindNumber Sign) key (h .le) block) ≡ sign codes counts references s h d
       unfolding sign
       sign-job v k b = simp (← i, t, eq-eqb (s .environment .number) 1 e, ← p, v, k, b)

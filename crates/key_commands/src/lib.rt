@@ -66,30 +66,37 @@ pub fn internal_authenticate(
 }
 
 // A status word alone.
-fn turned_down(codes: [Code; 3], s: Session, sw: u16) -> StepOutput
-    ensures { λ r. ⌜ r ≡ stepOutputFor (status codes s sw) ⌝ }
+fn turned_down(codes: [Code; 3], counts: [u8; 2], s: Session, sw: u16) -> StepOutput
+    ensures { λ r. ⌜ r ≡ stepOutputFor (status codes counts s sw) ⌝ }
 {
-    steps::in_session(codes, steps::session_status(s, sw))
+    steps::in_session(codes, counts, steps::session_status(s, sw))
 }
 
 // 2A 9E 9A SIGN: PIN2's mark goes off as the job is handed out.
-pub fn sign(codes: [Code; 3], references: [u8; 21], s: Session, h: Header, d: &[u8]) -> StepOutput
-    ensures { λ r. ⌜ r ≡ stepOutputFor (sign codes references s h (now (d .entry))) ⌝ }
+pub fn sign(
+    codes: [Code; 3],
+    counts: [u8; 2],
+    references: [u8; 21],
+    s: Session,
+    h: Header,
+    d: &[u8],
+) -> StepOutput
+    ensures { λ r. ⌜ r ≡ stepOutputFor (sign codes counts references s h (now (d .entry))) ⌝ }
 {
     if !digests::is_digest(d) {
-        return turned_down(codes, s, 0x6A80);
+        return turned_down(codes, counts, s, 0x6A80);
     }
     if s.environment.number != 1 {
-        return turned_down(codes, s, 0x6985);
+        return turned_down(codes, counts, s, 0x6985);
     }
     let pin2 = card_codes::code_of(codes, Code::PIN2);
     if !pin2.verified {
-        return turned_down(codes, s, 0x6982);
+        return turned_down(codes, counts, s, 0x6982);
     }
     let key = key_for(references, s, JobKind::Sign);
     let block = padded_block(d);
     let handed = steps::hand_out(s, JobKind::Sign, key, h.le, block);
-    steps::in_session(card_codes::closed(codes, Code::PIN2), handed)
+    steps::in_session(card_codes::closed(codes, Code::PIN2), counts, handed)
 }
 
 // How many bytes the chain has.

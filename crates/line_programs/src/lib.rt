@@ -26,7 +26,7 @@ fn written(output: &[u8], n: usize) -> bool {
     streams::written_or_said(io::write_all(STDOUT_FILENO, octets::part(output, 0, n)))
 }
 
-// How many bytes a program reads at once. Each gives at most 518 characters, or 2,232 of the stand-in (`ShortOutput`), so that 524,288
+// How many bytes a program reads at once. Each gives at most 518 characters, or 2,238 of the stand-in (`ShortOutput`), so that 524,288
 // hold all.
 fn at_once(dialect: Dialect) -> usize
     ensures { λ r. ⌜ mostText dialect * r ≤ 524288 ⌝ }

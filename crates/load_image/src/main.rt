@@ -14,10 +14,15 @@ fn put_bytes(text: &mut [u8], at: usize, name: &[u8], s: &[u8]) -> usize {
     writing::put(text, end, b"\n")
 }
 
-fn put_number(text: &mut [u8], at: usize, n: u8) -> usize {
+fn put_decimal(text: &mut [u8], at: usize, n: u8) -> usize {
     let mut digits = [0u8; 20];
     let count = io::decimal(numbers::wide(n) as u64, &mut digits);
-    let end = writing::put(text, at, &digits[..count]);
+    writing::put(text, at, &digits[..count])
+}
+
+// A number and a line end.
+fn put_number(text: &mut [u8], at: usize, n: u8) -> usize {
+    let end = put_decimal(text, at, n);
     writing::put(text, end, b"\n")
 }
 
@@ -81,8 +86,17 @@ fn put_codes(text: &mut [u8], at: usize, codes: [Code; 3]) -> usize {
     put_code(text, pin1, b"PIN2 ", card_codes::code_of(codes, Code::PIN2))
 }
 
+// The unblocking counts of PIN1 and PIN2.
+fn put_counts(text: &mut [u8], at: usize, counts: [u8; 2]) -> usize {
+    let named = writing::put(text, at, b"unblocking ");
+    let pin1 = put_decimal(text, named, card_codes::count_of(counts, Code::PIN1));
+    let pin2 = writing::put(text, pin1, b" ");
+    put_number(text, pin2, card_codes::count_of(counts, Code::PIN2))
+}
+
 fn put_card(text: &mut [u8], card: Card) -> usize {
     let codes = card.codes;
+    let counts = card.counts;
     let profile = card.profile;
     let keys = profile.keys;
     let references = profile.references;
@@ -90,7 +104,8 @@ fn put_card(text: &mut [u8], card: Card) -> usize {
     let end = put_codes(text, 0, codes);
     let end = put_keys(text, end, keys);
     let end = put_references(text, end, references);
-    put_records(text, end, personal)
+    let end = put_records(text, end, personal);
+    put_counts(text, end, counts)
 }
 
 fn put_fault(text: &mut [u8], fault: Fault) -> usize {
@@ -113,12 +128,12 @@ fn main() {
     ) {
         return;
     }
-    // What stands past 1,116 bytes changes nothing (`FirstBytes`, field `enough`).
-    let mut image = [0u8; 1116];
+    // What stands past 1,119 bytes changes nothing (`FirstBytes`, field `enough`).
+    let mut image = [0u8; 1119];
     let read = image_input::read_image(&mut image);
     let last = read.last;
-    if last.ended | (read.len == 1116) {
-        // The longest text has 2,314 characters.
+    if last.ended | (read.len == 1119) {
+        // The longest text has 2,333 characters.
         let mut text = [0u8; 4096];
         let end = put_loaded(&mut text, octets::part(&image, 0, read.len));
         streams::written_or_said(io::write_all(STDOUT_FILENO, octets::part(&text, 0, end)));

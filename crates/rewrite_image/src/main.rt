@@ -8,12 +8,12 @@ fn main() {
     ) {
         return;
     }
-    // What stands past 1,116 bytes changes nothing (`Rewrites`, field `enough`).
-    let mut image = [0u8; 1116];
+    // What stands past 1,119 bytes changes nothing (`Rewrites`, field `enough`).
+    let mut image = [0u8; 1119];
     let read = image_input::read_image(&mut image);
     let last = read.last;
-    if last.ended | (read.len == 1116) {
-        let mut text = [0u8; 1116];
+    if last.ended | (read.len == 1119) {
+        let mut text = [0u8; 1119];
         let end = rewriting::rewrite(octets::part(&image, 0, read.len), &mut text);
         streams::written_or_said(io::write_all(STDOUT_FILENO, octets::part(&text, 0, end)));
     }

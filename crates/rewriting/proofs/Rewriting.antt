@@ -17,7 +17,7 @@ number-given : (image : Bytes) → ¬ (load image .0 ≡ 0) → rewritten image 
 unfolding rewritten
 number-given image n = rw (ne-eqb (load image .0) 0 n)
 
-first-enough : (n : ℕ) (image : Bytes) → 1116 ≤ n → rewritten (take n image) ≡ rewritten image
+first-enough : (n : ℕ) (image : Bytes) → 1119 ≤ n → rewritten (take n image) ≡ rewritten image
 unfolding rewritten
 first-enough n image h = rw (first-bytes-law .enough n image h)
 

@@ -33,9 +33,9 @@ isWritten : WriteResult → Bool
 isWritten (NotWritten f) = false
 isWritten (Written n) = true
 
--- The writer on a good card and a text of 1,116 bytes.
-module _ (c : Card) (text : Bytes) (g : good c ≡ true) (size : length text ≡ 1116) where
-  room : 1115 ≤ length text
+-- The writer on a good card and a text of 1,119 bytes.
+module _ (c : Card) (text : Bytes) (g : good c ≡ true) (size : length text ≡ 1119) where
+  room : 1118 ≤ length text
   room = omega arith
 
   whole : write c text ≡ (wrote (length (imageOf c)), imageOf c ++ drop (length (imageOf c)) text)

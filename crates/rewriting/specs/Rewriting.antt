@@ -18,8 +18,8 @@ numberText n = (0x30 + n / 10) ∷ (0x30 + n % 10) ∷ 0x0A ∷ []
 unfoldable pub rewritten : Bytes → Bytes
 rewritten image = cond (eqb (load image .0) 0) (imageOf (load image .1)) (numberText (load image .0))
 
--- The same image where it loads, else its number. What stands past the first 1,116 bytes changes nothing, so no more need be read.
+-- The same image where it loads, else its number. What stands past the first 1,119 bytes changes nothing, so no more need be read.
 pub record Rewrites : Type 0 where
   pub same : (image : Bytes) → allBytes image ≡ true → load image .0 ≡ 0 → rewritten image ≡ image
   pub number : (image : Bytes) → ¬ (load image .0 ≡ 0) → rewritten image ≡ numberText (load image .0)
-  pub enough : (n : ℕ) (image : Bytes) → 1116 ≤ n → rewritten (take n image) ≡ rewritten image
+  pub enough : (n : ℕ) (image : Bytes) → 1119 ≤ n → rewritten (take n image) ≡ rewritten image

@@ -21,7 +21,7 @@ fn put_number(text: &mut [u8], fault: Fault) -> usize
 }
 
 // The image of a good card.
-fn put_image(text: &mut [u8; 1116], card: Card) -> usize
+fn put_image(text: &mut [u8; 1119], card: Card) -> usize
     requires { ⌜ good card ≡ true ⌝ }
     ensures { λ r. ⌜ Put (now (text .entry)) 0 (imageOf card) (now (text .exit)) r ⌝ }
 {
@@ -32,7 +32,7 @@ fn put_image(text: &mut [u8; 1116], card: Card) -> usize
 }
 
 // An image, loaded and written to the front of the text; or its load number. Answers the place behind it.
-pub fn rewrite(image: &[u8], text: &mut [u8; 1116]) -> usize
+pub fn rewrite(image: &[u8], text: &mut [u8; 1119]) -> usize
     ensures { λ r. ⌜ Put (now (text .entry)) 0 (rewritten (now (image .entry))) (now (text .exit)) r ⌝ }
 {
     let loaded = image::load(image);

@@ -244,7 +244,7 @@ module _ (c : Card) (result buffer : Bytes) (wrong : ¬ (length result ≡ 256))
   abbrev Ended : Result → Type 0
   Ended o = (o .returned ≡ responded 2) × (o .buffer ≡ 0x64 ∷ 0x00 ∷ drop 2 buffer)
 
-  delivered-alone : Ended (answered buffer c (inSession (c .codes) (deliver (c .session) result)))
+  delivered-alone : Ended (answered buffer c (inSession (c .codes) (c .counts) (deliver (c .session) result)))
   unfolding deliver written responseIn
   delivered-alone = rw (ne-eqb (length result) 256 wrong) (refl, refl)
 

@@ -1,6 +1,6 @@
--- Load reads at most 1,116 bytes: what stands past them changes nothing.
+-- Load reads at most 1,119 bytes: what stands past them changes nothing.
 use mathlib.Core.Path.{_≡_, refl}
-use mathlib.Core.Bool.{Bool, true, false, cond, _&&_}
+use mathlib.Core.Bool.{Bool, true, false, cond, not, _&&_}
 use mathlib.Core.List.{List, [], _∷_}
 use Prim.Native.Nat.{ℕ, zero, suc, _+_, _*_, _≤_}
 use native.Mathlib.Omega.{arith}
@@ -8,9 +8,10 @@ use lib.ListN.{take}
 use Rattle.octets.specs.Octets.{Bytes, word, digit}
 use Rattle.octets.proofs.Lists.{between}
 use Rattle.rules.specs.declared.Card.{Card}
-use Rattle.rules.specs.Codes.{PUK, PIN1, PIN2, least, most, storing}
+use Rattle.rules.specs.Codes.{PUK, PIN1, PIN2, least, most, storing, noLimits, unlimited}
 use Rattle.rules.specs.Image.{Read, got, fault, Reading, continued, require, byteIf, bytesIf, readCode, codeSection, readKey, readKeys}
-use Rattle.rules.specs.Image.{keyMarks, keySection, referenceSection, readPersonal, readRecords, personalSection, end, readCard, loaded, load}
+use Rattle.rules.specs.Image.{keyMarks, keySection, referenceSection, readPersonal, readRecords, personalSection, countSection, readCounts}
+use Rattle.rules.specs.Image.{end, readCard, loaded, load}
 use Rattle.rules.proofs.Loading.{knownAbove, bothClasses, activeUsable}
 
 -- What is read of the first bytes agrees with what is read of all: the same value, of which P holds, and at least so many of the bytes after
@@ -142,6 +143,17 @@ unfolding personalSection
 personal-agrees {left} b m h =
     agree-on (byte-agrees {left = 1040 + left} _ 22 b m (omega arith)) (λ _ b₁ m₁ h₁ _. records-agree {left = left} 16 b₁ m₁ (omega arith))
 
+counts-agree : {left : ℕ} (b : Bytes) (m : ℕ) → 3 + left ≤ m → Agrees Anything left (readCounts b) (readCounts (take m b))
+unfolding readCounts countSection
+counts-agree b zero h = absurd (omega arith)
+counts-agree [] (suc m) h = value-agrees noLimits [] (suc m) (omega arith)
+counts-agree {left} (x ∷ b) (suc m) h =
+    agree-on (byte-agrees {left = 2 + left} _ 22 (x ∷ b) (suc m) (omega arith)) (λ _ b₁ m₁ h₁ _.
+    agree-on (byte-agrees {left = 1 + left} _ 28 b₁ m₁ (omega arith)) (λ pin1 b₂ m₂ h₂ _.
+    agree-on (byte-agrees {left = left} _ 28 b₂ m₂ (omega arith)) (λ pin2 b₃ m₃ h₃ _.
+    agree-on (require-agrees {left = left} (not (unlimited (pin1 ∷ pin2 ∷ []))) 28 b₃ m₃ (omega arith)) (λ _ b₄ m₄ h₄ _.
+    value-agrees (pin1 ∷ pin2 ∷ []) b₄ m₄ h₄))))
+
 -- One byte more tells whether any is left over.
 end-agrees : (b : Bytes) (m : ℕ) → 1 ≤ m → Agrees Anything 0 (end b) (end (take m b))
 unfolding end
@@ -149,16 +161,17 @@ end-agrees b zero h = absurd (omega arith)
 end-agrees [] (suc m) h = value-agrees true [] (suc m) (omega arith)
 end-agrees (x ∷ b) (suc m) h = record { agrees = refl }
 
--- 1,116 = 43 + 9 + 22 + 1,041 + 1.
-card-agrees : (b : Bytes) (m : ℕ) → 1116 ≤ m → Agrees Anything 0 (readCard b) (readCard (take m b))
+-- 1,119 = 43 + 9 + 22 + 1,041 + 3 + 1.
+card-agrees : (b : Bytes) (m : ℕ) → 1119 ≤ m → Agrees Anything 0 (readCard b) (readCard (take m b))
 unfolding readCard
 card-agrees b m h =
-    agree-on (codes-agree {left = 1073} b m (omega arith)) (λ codes b₁ m₁ h₁ _.
-    agree-on (keySection-agrees {left = 1064} b₁ m₁ (omega arith)) (λ keys b₂ m₂ h₂ _.
-    agree-on (references-agree {left = 1042} keys b₂ m₂ (omega arith)) (λ references b₃ m₃ h₃ _.
-    agree-on (personal-agrees {left = 1} b₃ m₃ (omega arith)) (λ personal b₄ m₄ h₄ _.
-    agree-on (end-agrees b₄ m₄ h₄) (λ _ b₅ m₅ h₅ _.
-    value-agrees _ b₅ m₅ h₅)))))
+    agree-on (codes-agree {left = 1076} b m (omega arith)) (λ codes b₁ m₁ h₁ _.
+    agree-on (keySection-agrees {left = 1067} b₁ m₁ (omega arith)) (λ keys b₂ m₂ h₂ _.
+    agree-on (references-agree {left = 1045} keys b₂ m₂ (omega arith)) (λ references b₃ m₃ h₃ _.
+    agree-on (personal-agrees {left = 4} b₃ m₃ (omega arith)) (λ personal b₄ m₄ h₄ _.
+    agree-on (counts-agree {left = 1} b₄ m₄ (omega arith)) (λ counts b₅ m₅ h₅ _.
+    agree-on (end-agrees b₅ m₅ h₅) (λ _ b₆ m₆ h₆ _.
+    value-agrees _ b₆ m₆ h₆))))))
 
 -- What agrees loads alike.
 loaded-alike : {P : Card → Type 0} {left : ℕ} (r s : Read Card) → Agrees P left r s → loaded s ≡ loaded r
@@ -168,6 +181,6 @@ loaded-alike (got a rest) (fault n) h = absurd (h .agrees)
 loaded-alike (fault n) (got b part) h = absurd (h .agrees)
 loaded-alike (fault n) (fault m) h = rw (h .agrees)
 
-pub first-bytes : (n : ℕ) (image : Bytes) → 1116 ≤ n → load (take n image) ≡ load image
+pub first-bytes : (n : ℕ) (image : Bytes) → 1119 ≤ n → load (take n image) ≡ load image
 unfolding load
 first-bytes n image h = loaded-alike (readCard image) (readCard (take n image)) (card-agrees image n h)

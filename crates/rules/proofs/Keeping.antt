@@ -22,7 +22,7 @@ use Rattle.rules.specs.Numbers.{LengthForm, form, refused, Naming, names
 use Rattle.rules.specs.Apdu.{parse, dataOf}
 use Rattle.rules.specs.Codes.{PUK, PIN1, PIN2, closed}
 use Rattle.rules.specs.Session.{dropHeld, dropChain, dropBoth}
-use Rattle.rules.specs.State.{goodCodes, goodReferences, goodSession, good}
+use Rattle.rules.specs.State.{goodCodes, goodCounts, goodReferences, goodSession, good}
 use Rattle.rules.specs.Answers.{Answer, response, job, Step, SessionStep, inSession, inCodes}
 use Rattle.rules.specs.Judgement.{commands, instruction, parameters, noData, hasData, hasLe, lengths, ownRules, refusal}
 use Rattle.rules.specs.Judgement.{knownClass, knownInstruction, badChaining, namedIn, judgeNamed, judgeHeader}
@@ -32,13 +32,13 @@ use Rattle.rules.specs.Edge.{Result, refuse, responseIn, written, cardAf
 use Rattle.rules.specs.Counting.{Call, Command, Delivery, PowerReset, step, next, ofBytes}
 use Rattle.rules.specs.Demands.{bufferOf}
 use Rattle.rules.proofs.Forms.{FitForm, wellFormed, malformed, formData, parse-fits}
-use Rattle.rules.proofs.Parts.{good-codes, good-profile, good-references, good-session, good-card}
+use Rattle.rules.proofs.Parts.{good-codes, good-counts, good-profile, good-references, good-session, good-card}
 use Rattle.rules.proofs.Walks.{refusing, command-walk, delivery-walk}
 use Rattle.rules.proofs.Sessions.{held-replaced, chain-replaced, new-session-good}
 use Rattle.rules.proofs.KeepingAnswers.{MayCome, FitResponse, Fit, nothingMore, commandMayGive, Ended, Keeps, KeepsCodes, KeepsBoth}
 use Rattle.rules.proofs.KeepingAnswers.{refusing-alone, status-fits}
 use Rattle.rules.proofs.KeepingFiles.{select-keeps, readRecord-keeps, readBinary-keeps, getResponse-keeps}
-use Rattle.rules.proofs.KeepingCodes.{closed-good, verify-keeps, change-keeps, resetRetry-keeps}
+use Rattle.rules.proofs.KeepingCodes.{closed-good, verify-keeps, change-keeps, resetRetry-keeps, countsLeft-good}
 use Rattle.rules.proofs.KeepingKeys.{setEnvironment-keeps, chooseKey-keeps, authenticate-keeps, sign-keeps}
 use Rattle.rules.proofs.KeepingKeys.{decipher-keeps, deliver-keeps}
 
@@ -88,6 +88,25 @@ plain-class h known unchained other =
     or-cases _ (eqb (h .cla) 0x00) (eqb (h .cla) 0x10) (simp or-false at known) (eqb-true (h .cla) 0x00)
     (λ e. never (simp (e, ne-eqb (h .ins) 0x2A other) at unchained) refl)
 
+-- Steps 2 to 7: a refusal, or the own rules of a command that the header names.
+module _ (P : Step → Type 0) (c : Card) (h : Header) (d authentication signature : Bytes) where
+  named-walk : {n : Naming} → Found h n → P (refusal c 0x6A86) → P (refusal c 0x6700)
+      → ((x : Instruction) → Fits h x → lengths x h ≡ true → P (ownRules x c h d authentication signature))
+      → P (judgeNamed n c h d authentication signature)
+  unfolding judgeNamed
+  named-walk nothing unnamed short own = unnamed
+  named-walk (is x fits) unnamed short own = split P (not (lengths x h)) (λ _. short) (λ l. own x fits (not-false _ l))
+
+  pub header-walk : P (refusal c 0x6E00) → P (refusal c 0x6D00) → P (refusal c 0x6884) → P (refusal c 0x6A86) → P (refusal c 0x6700)
+      → ((h .ins ≢ 0x2A → h .cla ≡ 0x00) → (x : Instruction) → Fits h x → lengths x h ≡ true → P (ownRules x c h d authentication signature))
+      → P (judgeHeader c h d authentication signature)
+  unfolding judgeHeader
+  header-walk class instruction chaining unnamed short own =
+      split P (not (knownClass h)) (λ _. class)
+      (λ known. split P (not (knownInstruction h)) (λ _. instruction)
+      (λ _. split P (badChaining h) (λ _. chaining)
+      (λ unchained. named-walk (found h commands) unnamed short (own (plain-class h (not-false _ known) unchained)))))
+
 -- A good card with no waiting job.
 module _ (c : Card) (g : good c ≡ true) (idle : c .session .job .kind ≡ 0) where
   abbrev keys : List Bool
@@ -110,14 +129,14 @@ module _ (c : Card) (g : good c ≡ true) (idle : c .session .job .kind ≡ 0) w
     abbrev m : MayCome
     m = commandMayGive (Ended h) (c .session) d
 
-    session-only : {o : SessionStep} → Keeps m keys o → KeepsBoth m keys (inSession (c .codes) o)
-    session-only k = record { codes = good-codes c g; session = k .session; answer = k .answer }
+    session-only : {o : SessionStep} → Keeps m keys o → KeepsBoth m keys (inSession (c .codes) (c .counts) o)
+    session-only k = record { codes = good-codes c g; counts = good-counts c g; session = k .session; answer = k .answer }
 
-    codes-only : {o : CodeStep} → KeepsCodes o → KeepsBoth m keys (inCodes (dropBoth (c .session)) o)
-    codes-only k = record { codes = k .codes; session = dropped; answer = status-fits (k .word) }
+    codes-only : {counts : List ℕ} {o : CodeStep} → goodCounts counts ≡ true → KeepsCodes o → KeepsBoth m keys (inCodes counts (dropBoth (c .session)) o)
+    codes-only n k = record { codes = k .codes; counts = n; session = dropped; answer = status-fits (k .word) }
 
     refusal-both : (sw : ℕ) → refusing sw ≡ true → KeepsBoth m keys (refusal c sw)
-    refusal-both sw z = record { codes = good-codes c g; session = dropped; answer = status-fits (refusing-alone sw z) }
+    refusal-both sw z = record { codes = good-codes c g; counts = good-counts c g; session = dropped; answer = status-fits (refusing-alone sw z) }
 
     ownRules-keeps : (x : Instruction) → h .ins ≡ instruction x → (h .ins ≢ 0x2A → h .cla ≡ 0x00) → parameters x (h .p1) (h .p2) ≡ true
         → lengths x h ≡ true → KeepsBoth m keys (ownRules x c h d authentication signature)
@@ -136,34 +155,26 @@ module _ (c : Card) (g : good c ≡ true) (idle : c .session .job .kind ≡ 0) w
           short = short;
         }))
     ownRules-keeps GetResponse i k p l = session-only (getResponse-keeps m keys _ chainless h idle)
-    ownRules-keeps Verify i k p l = codes-only (verify-keeps (c .codes) (good-codes c g) h d (verify-code h p))
-    ownRules-keeps Change i k p l = codes-only (change-keeps (c .codes) (good-codes c g) h d (change-code h p))
-    ownRules-keeps ResetRetry i k p l = codes-only (resetRetry-keeps (c .codes) (good-codes c g) h d (reset-code h p .1))
+    ownRules-keeps Verify i k p l = codes-only (good-counts c g) (verify-keeps (c .codes) (good-codes c g) h d (verify-code h p))
+    ownRules-keeps Change i k p l = codes-only (good-counts c g) (change-keeps (c .codes) (good-codes c g) h d (change-code h p))
+    ownRules-keeps ResetRetry i k p l =
+        codes-only (countsLeft-good (c .counts) (good-counts c g) (h .p2) (reset-code h p .1) (reset-code h p .0) _)
+        (resetRetry-keeps (c .codes) (good-codes c g) (c .counts) h d (reset-code h p .1))
     ownRules-keeps SetEnvironment i k p l = session-only (setEnvironment-keeps m keys _ dropped h)
     ownRules-keeps ChooseKey i k p l = session-only (chooseKey-keeps m keys _ dropped h d)
     ownRules-keeps InternalAuthenticate i k p l =
         session-only (authenticate-keeps (Ended h) (c .session) (c .codes) keys _ references-good _ dropped h d le refl refl
         (omega (arith, authenticate-length h l)))
     ownRules-keeps ComputeSignature i k p l =
-        sign-keeps (Ended h) (c .session) (c .codes) keys _ references-good _ dropped h d le refl (good-codes c g) refl
+        sign-keeps (Ended h) (c .session) (c .codes) keys _ references-good _ dropped h d le refl (c .counts) (good-counts c g) (good-codes c g) refl
     ownRules-keeps Decipher i k p l =
         session-only (decipher-keeps (Ended h) (c .session) (c .codes) keys _ references-good _ heldless h d le refl refl idle)
 
-    judgeNamed-keeps : {n : Naming} → Found h n → (h .ins ≢ 0x2A → h .cla ≡ 0x00)
-        → KeepsBoth m keys (judgeNamed n c h d authentication signature)
-    unfolding judgeNamed
-    judgeNamed-keeps nothing k = refusal-both 0x6A86 refl
-    judgeNamed-keeps (is x fits) k =
-        split (KeepsBoth m keys) (not (lengths x h)) (λ _. refusal-both 0x6700 refl)
-        (λ l. ownRules-keeps x (fits .ins) k (fits .parameters) (not-false _ l))
-
     judgeHeader-keeps : KeepsBoth m keys (judgeHeader c h d authentication signature)
-    unfolding judgeHeader
     judgeHeader-keeps =
-        split (KeepsBoth m keys) (not (knownClass h)) (λ _. refusal-both 0x6E00 refl)
-        (λ known. split (KeepsBoth m keys) (not (knownInstruction h)) (λ _. refusal-both 0x6D00 refl)
-        (λ _. split (KeepsBoth m keys) (badChaining h) (λ _. refusal-both 0x6884 refl)
-        (λ unchained. judgeNamed-keeps (found h commands) (plain-class h (not-false _ known) unchained))))
+        header-walk (KeepsBoth m keys) c h d authentication signature (refusal-both 0x6E00 refl) (refusal-both 0x6D00 refl)
+        (refusal-both 0x6884 refl) (refusal-both 0x6A86 refl) (refusal-both 0x6700 refl)
+        (λ k x fits l. ownRules-keeps x (fits .ins) k (fits .parameters) l)
 
 -- Data that a command of a length form gives with 6282.
 abbrev pub FormEnded : LengthForm → Bytes → Type 0
@@ -176,7 +187,13 @@ module _ (c : Card) (g : good c ≡ true) (idle : c .session .job .kind ≡ 0) (
   unfolding judgeForm
   judgeForm-keeps (wellFormed h start le) =
       judgeHeader-keeps c g idle h (dataOf b start h) authentication signature le (omega (arith, length-take (h .lc) (drop start b)))
-  judgeForm-keeps malformed = record { codes = good-codes c g; session = dropped c g idle; answer = status-fits (refusing-alone 0x6700 refl) }
+  judgeForm-keeps malformed =
+      record {
+        codes = good-codes c g;
+        counts = good-counts c g;
+        session = dropped c g idle;
+        answer = status-fits (refusing-alone 0x6700 refl);
+      }
 
   pub judge-keeps : allBytes b ≡ true
       → KeepsBoth (commandMayGive (FormEnded (parse b)) (c .session) (formData b (parse b))) (c .profile .keys) (judge c b authentication signature)
@@ -206,7 +223,7 @@ module _ (c : Card) (x : Call) (room : 258 ≤ length (bufferOf x)) where
 
   answered-gives : good c ≡ true → (o : Step) → KeepsBoth (callMayGive c x) (c .profile .keys) o → Gives c x (answered (bufferOf x) c o)
   answered-gives g o k =
-      written-gives (cardAfter c o) (o .answer) (good-card (cardAfter c o) (k .codes) (good-profile c g) (k .session)) (k .answer)
+      written-gives (cardAfter c o) (o .answer) (good-card (cardAfter c o) (k .codes) (k .counts) (good-profile c g) (k .session)) (k .answer)
 
 gives-good : {c : Card} {x : Call} {o : Result} → Gives c x o → good c ≡ true → good (o .card) ≡ true
 gives-good (refuses x r) g = g
@@ -232,11 +249,11 @@ call-gives c (Delivery result buffer) bytes =
     let x : Call = Delivery result buffer in
     delivery-walk (Gives c x) c result buffer (refuses x)
     (λ g room. let kept = deliver-keeps (c .profile .keys) (c .session) (good-session c g) result in
-    answered-gives c x (ltb-false _ _ room) g (inSession (c .codes) (deliver (c .session) result))
-    (record { codes = good-codes c g; session = kept .session; answer = kept .answer }))
+    answered-gives c x (ltb-false _ _ room) g (inSession (c .codes) (c .counts) (deliver (c .session) result))
+    (record { codes = good-codes c g; counts = good-counts c g; session = kept .session; answer = kept .answer }))
 call-gives c PowerReset bytes =
     split (λ (o : _ × Card). Gives c PowerReset (record { returned = o .0; card = o .1; buffer = [] })) (not (good c)) (λ e. refuses PowerReset 1)
-    (λ g. resets _ (good-card _ (all-closed (c .codes) (good-codes c (not-false _ g))) (good-profile c (not-false _ g)) (new-session-good _)))
+    (λ g. resets _ (good-card _ (all-closed (c .codes) (good-codes c (not-false _ g))) (good-counts c (not-false _ g)) (good-profile c (not-false _ g)) (new-session-good _)))
 
 -- Every call of bytes keeps a good card good.
 pub kept : (c : Card) (x : Call) → ofBytes x ≡ true → good c ≡ true → good (next c x) ≡ true

@@ -17,7 +17,7 @@ use Rattle.rules.specs.declared.JobKind.{JobKind}
 use Rattle.rules.specs.declared.JobKind.the-variants.{Authenticate, Sign, Decipher}
 use Rattle.rules.specs.Numbers.{kindNumber}
 use Rattle.rules.specs.Keys.{usable}
-use Rattle.rules.specs.State.{goodCodes, goodReferences, goodJob, goodSession}
+use Rattle.rules.specs.State.{goodCodes, goodCounts, goodReferences, goodJob, goodSession}
 use Rattle.rules.specs.Answers.{Answer, response, job, Step, SessionStep, sessionStatus, moreBytes, give, handOut}
 use Rattle.rules.specs.KeyCommands.{jobKey}
 use Rattle.rules.specs.Demands.{blockOf, refusalStatus}
@@ -97,6 +97,7 @@ pub record KeepsCodes (o : CodeStep) : Type 0 where
 -- Any command.
 pub record KeepsBoth (m : MayCome) (keys : List Bool) (o : Step) : Type 0 where
   pub codes : goodCodes (o .codes) ≡ true
+  pub counts : goodCounts (o .counts) ≡ true
   pub session : goodSession keys (o .session) ≡ true
   pub answer : Fit m (o .answer)
 

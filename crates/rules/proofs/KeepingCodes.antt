@@ -4,20 +4,23 @@ use mathlib.Core.Bool.{Bool, true, false, not, or-true}
 use mathlib.Core.List.{List}
 use Prim.Native.Nat.{ℕ, _-_, _≤_, _<_}
 use native.Mathlib.Omega.{arith}
+use lib.Dec.{eqb}
 use lib.ListN.{length-set}
 use Rattle.octets.specs.Octets.{Bytes}
+use Rattle.octets.proofs.Tests.{split}
 use Rattle.octets.proofs.Buffers.{each-place}
 use Rattle.rules.specs.declared.Code.{Code}
 use Rattle.rules.specs.declared.Header.{Header}
 use Rattle.rules.specs.declared.Verdict.{Verdict}
 use Rattle.rules.specs.declared.Verdict.the-variants.{Right, Wrong, NoTries}
-use Rattle.rules.specs.Codes.{PUK, fullTries, allowed, marked, zeroCode, codeOf, withCode, closed}
-use Rattle.rules.specs.State.{goodCode, goodCodes}
+use Rattle.rules.specs.Codes.{PUK, fullTries, allowed, marked, zeroCode, codeOf, withCode, closed, noLimit, countOf, withCount, lowered}
+use Rattle.rules.specs.State.{goodCode, goodCodes, goodCounts}
 use Rattle.rules.specs.Answers.{codeStatus}
 use Rattle.rules.specs.CodeCommands.{swNotAllowed, swHasTries, verdict, judged, queried, verify, replaced}
-use Rattle.rules.specs.CodeCommands.{change, unblocked, unblockByPresentedPuk, resetRetry}
+use Rattle.rules.specs.CodeCommands.{change, unblocked, unblockByPresentedPuk, resetRetry, countsLeft}
 use Rattle.rules.proofs.Walks.{refusing, queried-walk, verify-walk, replaced-walk, verifiedPuk-walk, resetRetry-walk}
 use Rattle.rules.proofs.Parts.{code-tries, marked-good, stored-good, three-codes, good-code, codes-good, code-place}
+use Rattle.rules.proofs.Parts.{two-counts, good-place, good-count, counts-good}
 use Rattle.rules.proofs.KeepingAnswers.{KeepsCodes, refusing-alone, ok-alone, left-alone}
 
 -- A refusal: the codes as they were.
@@ -89,10 +92,27 @@ module _ (codes : List Code) (g : goodCodes codes ≡ true) where
   presented-keeps pin b d =
       replaced-keeps codes g PUK (omega arith) pin _ _ _ (λ a. unblocked-good pin b _ fullTries (stored-good pin _ a) (omega arith))
 
-  pub resetRetry-keeps : (h : Header) (d : Bytes) → h .p2 < 3 → KeepsCodes (resetRetry codes h d)
-  resetRetry-keeps h d b =
-      resetRetry-walk KeepsCodes codes h d (refused-keeps swHasTries g refl)
-      (λ _ _. verifiedPuk-walk KeepsCodes codes (h .p2) (refused-keeps 0x6982 g refl)
+  pub resetRetry-keeps : (counts : List ℕ) (h : Header) (d : Bytes) → h .p2 < 3 → KeepsCodes (resetRetry codes counts h d)
+  resetRetry-keeps counts h d b =
+      resetRetry-walk KeepsCodes codes counts h d (refused-keeps swHasTries g refl) (refused-keeps 0x6983 g refl)
+      (λ _ _ _. verifiedPuk-walk KeepsCodes codes (h .p2) (refused-keeps 0x6982 g refl)
       (λ _. done-keeps (unblocked-good (h .p2) b _ (codeOf codes PUK .tries) (three-tries codes g (h .p2) b false)
       (code-tries PUK (codeOf codes PUK) (good-code codes g PUK (omega arith))))))
-      (λ _ _. presented-keeps (h .p2) b d)
+      (λ _ _ _. presented-keeps (h .p2) b d)
+
+-- A count is not raised.
+pub lowered-most : (n : ℕ) → lowered n ≤ n
+unfolding lowered
+lowered-most n = split (λ m. m ≤ n) (eqb n noLimit) (λ _. omega arith) (λ _. omega arith)
+
+-- Good counts stay good.
+pub countsLeft-good : (counts : List ℕ) → goodCounts counts ≡ true → (pin : ℕ) → pin < 3 → 1 ≤ pin → (sw : ℕ)
+    → goodCounts (countsLeft counts pin sw) ≡ true
+unfolding countsLeft
+countsLeft-good counts g pin b low sw =
+    let n : ℕ = lowered (countOf counts pin) in
+    let limit : n ≤ noLimit = omega (arith, lowered-most (countOf counts pin), good-count counts g pin b low) in
+    split (λ (l : List ℕ). goodCounts l ≡ true) (eqb sw 0x9000)
+    (λ _. counts-good (withCount counts pin n) (length-set counts (pin - 1) n ∙ two-counts counts g)
+    (λ i h. each-place (λ _ m. m ≤ noLimit) counts (pin - 1) n 0 (omega (arith, two-counts counts g)) limit i (good-place counts g i h)))
+    (λ _. g)

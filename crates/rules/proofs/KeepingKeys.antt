@@ -18,7 +18,7 @@ use Rattle.rules.specs.declared.Session.{Session}
 use Rattle.rules.specs.Keys.{usable}
 use Rattle.rules.specs.Codes.{PIN2}
 use Rattle.rules.specs.Session.{allActive, noJob, chainBytes, withJob, dropChain}
-use Rattle.rules.specs.State.{goodCodes, goodReferences, goodEnvironment, goodSession}
+use Rattle.rules.specs.State.{goodCodes, goodCounts, goodReferences, goodEnvironment, goodSession}
 use Rattle.rules.specs.KeyCommands.{setEnvironment, kindChosen, choosing, chooseKey, internalAuthenticate, sign}
 use Rattle.rules.specs.KeyCommands.{decipher}
 use Rattle.rules.specs.Delivery.{deliver}
@@ -73,14 +73,15 @@ module _ (E : Bytes → Type 0) (t : Session) (codes : List Code) (keys : List B
       authenticate-walk (Keeps (commandMayGive E t d) keys) s codes references h d (refusal-keeps g)
       (λ _. handOut-keeps keys references s r g held chain Authenticate (h .le) (padded d) le (padded-job 1 (omega arith) (omega arith) short))
 
-  pub sign-keeps : goodCodes codes ≡ true → s .chain .len ≡ 0 → KeepsBoth (commandMayGive E t d) keys (sign codes references s h d)
-  sign-keeps gc chain =
-      sign-walk (KeepsBoth (commandMayGive E t d) keys) codes references s h d
-      (λ sw z. let kept = refusal-keeps {m = commandMayGive E t d} g sw z in record { codes = gc; session = kept .session; answer = kept .answer })
+  pub sign-keeps : (counts : List ℕ) → goodCounts counts ≡ true → goodCodes codes ≡ true → s .chain .len ≡ 0
+      → KeepsBoth (commandMayGive E t d) keys (sign codes counts references s h d)
+  sign-keeps counts gn gc chain =
+      sign-walk (KeepsBoth (commandMayGive E t d) keys) codes counts references s h d
+      (λ sw z. let kept = refusal-keeps {m = commandMayGive E t d} g sw z in record { codes = gc; counts = gn; session = kept .session; answer = kept .answer })
       (λ digest _.
       let own : OwnJob t d 2 (padded d) = padded-job 2 (omega arith) (omega arith) (omega (arith, digest-forms .short d digest)) in
       let job = handOut-keeps {m = commandMayGive E t d} keys references s r g held chain Sign (h .le) (padded d) le own in
-      record { codes = closed-good codes gc PIN2 (omega arith); session = job .session; answer = job .answer })
+      record { codes = closed-good codes gc PIN2 (omega arith); counts = gn; session = job .session; answer = job .answer })
 
   pub decipher-keeps : chainBytes t ≡ chainBytes s → s .job .kind ≡ 0 → Keeps (commandMayGive E t d) keys (decipher codes references s h d)
   decipher-keeps chain idle =

@@ -20,6 +20,7 @@ pub mod FirstBytes
 pub mod GoodStates
 pub mod Queries
 pub mod Sheet
+pub mod Counts
 pub mod Unblocking
 pub mod SequenceBound
 pub mod SequenceMet

@@ -1,13 +1,14 @@
--- What load gives: a good card in a new session, of an image of 84 to 1,115 bytes; or a fault beside the all-zero state.
+-- What load gives: a good card in a new session, of an image of 84 to 1,118 bytes; or a fault beside the all-zero state.
 use mathlib.Core.Path.{_≡_, refl, sym, ap, _∙_}
-use mathlib.Core.Bool.{Bool, true, false, cond, _&&_, _||_, or-false}
+use mathlib.Core.Bool.{Bool, true, false, cond, not, _&&_, _||_, or-false}
 use mathlib.Core.List.{List, [], _∷_, _++_, append-assoc, append-nil}
 use Prim.Native.Nat.{ℕ, zero, suc, _+_, _*_, _≤_, _<_}
 use native.Mathlib.Omega.{arith}
 use lib.Dec.{eqb, leb, ltb}
-use lib.ListN.{length, take}
-use borrow.Author.Tests.{eqb-true, leb-true, ltb-true, eq-eqb, ne-eqb, le-leb}
-use Rattle.octets.specs.Octets.{Bytes, word, member, all, allBytes, blank, filled, goodRoom}
+use lib.ListN.{length, take, drop}
+use lib.Seq.{drop-drop, drop-at}
+use borrow.Author.Tests.{eqb-true, leb-true, ltb-true, eq-eqb, ne-eqb, le-leb, not-true}
+use Rattle.octets.specs.Octets.{Bytes, byteAt, word, member, all, allBytes, blank, filled, goodRoom}
 use Rattle.octets.proofs.Tests.{and-left, and-right, or-cases, below-three}
 use Rattle.octets.proofs.Strings.{all-right, take-filled}
 use Rattle.octets.proofs.Words.{halves-of-word}
@@ -15,16 +16,17 @@ use Rattle.octets.proofs.Lists.{between, byte-after, rest-after}
 use Rattle.rules.specs.declared.Card.{Card}
 use Rattle.rules.specs.declared.Code.{Code}
 use Rattle.rules.specs.declared.Record.{Record}
-use Rattle.rules.specs.Codes.{PUK, PIN1, PIN2, least, most, allowed, storing, codeOf}
+use Rattle.rules.specs.Codes.{PUK, PIN1, PIN2, least, most, allowed, storing, codeOf, noLimit, noLimits, countOf}
+use Rattle.rules.specs.Codes.{unlimited}
 use Rattle.rules.specs.Keys.{signatureKey, authenticationKey, present, usable, activeKey}
 use Rattle.rules.specs.Session.{newSession}
-use Rattle.rules.specs.State.{goodCode, goodCodes, goodReferences, goodRecord, goodRecords, goodProfile, good}
+use Rattle.rules.specs.State.{goodCode, goodCodes, goodCounts, goodReferences, goodRecord, goodRecords, goodProfile, good}
 use Rattle.rules.specs.Image.{Read, got, fault, Reading, continued, require, byteIf, bytesIf, readCode}
 use Rattle.rules.specs.Image.{codeSection, readKey, readKeys, keyMarks, keySection, referenceSection, readPersonal}
-use Rattle.rules.specs.Image.{readRecords, personalSection, end, cardOf, readCard, zeroCard, loaded, load}
+use Rattle.rules.specs.Image.{readRecords, personalSection, countSection, readCounts, end, cardOf, readCard, zeroCard, loaded, load}
 use Rattle.rules.specs.Writer.{codeImage, codesImage, keysAmong, keysOn, keyBytes, keysImage, referencesImage}
-use Rattle.rules.specs.Writer.{recordImage, recordsImage, personalImage, imageOf}
-use Rattle.rules.specs.Counting.{imageFrom, triesAtLoad}
+use Rattle.rules.specs.Writer.{recordImage, recordsImage, personalImage, countsImage, imageOf}
+use Rattle.rules.specs.Counting.{imageFrom, triesAtLoad, behindRecords, lastSection, countAtLoad}
 use Rattle.rules.specs.Demands.{Images}
 use Rattle.rules.proofs.Parts.{filled-room, marked-good, stored-good, codes-good, records-first, good-card}
 use Rattle.rules.proofs.Sessions.{new-session-good}
@@ -32,7 +34,7 @@ use Rattle.rules.proofs.Sessions.{new-session-good}
 -- A fault's number.
 record FaultNumber (n : ℕ) : Type 0 where
   least : 21 ≤ n
-  most : n ≤ 27
+  most : n ≤ 28
 
 -- What a reading ensures: Q of what was read and the bytes after it, or a fault's number.
 abbrev EnsuresOf : {A : Type 0} → (A → Bytes → Type 0) → Read A → Type 0
@@ -91,8 +93,8 @@ byteIf-ensures test n (x ∷ b) f =
     tested (test x) n x b f (λ e. record { what = record { joined = refl; passed = e }; size = omega arith })
 
 -- The faults of the sections.
-numbered : (n : ℕ) → leb 21 n ≡ true → leb n 27 ≡ true → FaultNumber n
-numbered n l m = record { least = leb-true 21 n l; most = leb-true n 27 m }
+numbered : (n : ℕ) → leb 21 n ≡ true → leb n 28 ≡ true → FaultNumber n
+numbered n l m = record { least = leb-true 21 n l; most = leb-true n 28 m }
 
 -- A section's count.
 count-ensures : (n : ℕ) (b : Bytes) → Ensures (Used (λ _ rest. b ≡ n ∷ rest) 1 1 b) (byteIf (λ x. eqb x n) 22 b)
@@ -156,6 +158,7 @@ record Codes (image : Bytes) (codes : List Code) (rest : Bytes) : Type 0 where
   isGood : goodCodes codes ≡ true
   unverified : (k : ℕ) → k < 3 → codeOf codes k .verified ≡ false
   tries : (k : ℕ) → k < 3 → codeOf codes k .tries ≡ triesAtLoad image k
+  next : rest ≡ imageFrom image 3
 
 codeSection-ensures : (image : Bytes) → Ensures (Used (Codes image) 24 43 image) (codeSection image)
 unfolding codeSection least codesImage
@@ -173,6 +176,7 @@ codeSection-ensures image =
         unverified =
             below-three (λ k. codeOf codes k .verified ≡ false) (h₁ .what .unverified) (h₂ .what .unverified) (h₃ .what .unverified);
         tries = below-three (λ k. codeOf codes k .tries ≡ triesAtLoad image k) (h₁ .what .tries) (h₂ .what .tries) (h₃ .what .tries);
+        next = h₃ .what .next;
       };
       size = omega arith;
     })))))
@@ -185,6 +189,7 @@ knownAbove last key = (signatureKey key || authenticationKey key) && ltb last ke
 record OneKey (last : ℕ) (b : Bytes) (key : ℕ) (rest : Bytes) : Type 0 where
   joined : allBytes b ≡ true → b ≡ keyBytes (key ∷ []) ++ rest
   passed : knownAbove last key ≡ true
+  next : rest ≡ drop 2 b
 
 readKey-ensures : (last : ℕ) (b : Bytes) → Ensures (Used (OneKey last b) 2 2 b) (readKey last b)
 unfolding readKey keyBytes
@@ -197,6 +202,7 @@ readKey-ensures last b =
       what = record {
         joined = λ e. bytes ∙ halves-of-word high low b₃ (rw bytes at e);
         passed = h₃ .what .passed;
+        next = sym (ap (λ (l : Bytes). drop 2 l) bytes);
       };
       size = omega arith;
     }))))
@@ -282,13 +288,15 @@ record SomeKeys (n last : ℕ) (b : Bytes) (keys : List ℕ) (rest : Bytes) : Ty
   joined : allBytes b ≡ true → b ≡ keyBytes keys ++ rest
   passed : rising last keys ≡ true
   number : length keys ≡ n
+  next : rest ≡ drop (2 * n) b
 
 readKeys-ensures : (n last : ℕ) (b : Bytes) → Ensures (Used (SomeKeys n last b) (2 * n) (2 * n) b) (readKeys n last b)
 unfolding readKeys keyBytes
-readKeys-ensures zero last b = found (record { what = record { joined = λ _. refl; passed = refl; number = refl }; size = omega arith })
+readKeys-ensures zero last b = found (record { what = record { joined = λ _. refl; passed = refl; number = refl; next = refl }; size = omega arith })
 readKeys-ensures (suc n) last b =
     goes-on (readKey-ensures last b) (λ key b₁ h₁.
     goes-on (readKeys-ensures n key b₁) (λ keys rest h₂.
+    let two-more : 2 + 2 * n ≡ 2 * suc n = omega arith in
     found (record {
       what = record {
         joined = λ e.
@@ -296,6 +304,9 @@ readKeys-ensures (suc n) last b =
             rw (← h₂ .what .joined (all-right (λ x. ltb x 256) (keyBytes (key ∷ [])) b₁ (rw first at e))) first;
         passed = rw (h₁ .what .passed) (h₂ .what .passed);
         number = omega arith;
+        next =
+            h₂ .what .next ∙ ap (λ (l : Bytes). drop (2 * n) l) (h₁ .what .next) ∙ drop-drop (2 * n) 2 b
+            ∙ ap (λ (m : ℕ). drop m b) two-more;
       };
       size = omega arith;
     })))
@@ -308,6 +319,7 @@ bothClasses keys = (member 0x0100 keys || member 0x0200 keys) && (member 0x1100 
 record Keys (b : Bytes) (keys : List Bool) (rest : Bytes) : Type 0 where
   joined : allBytes b ≡ true → b ≡ keysImage keys ++ rest
   four : length keys ≡ 4
+  next : rest ≡ drop (suc (2 * byteAt b 0)) b
 
 keySection-ensures : (b : Bytes) → Ensures (Used (Keys b) 5 9 b) (keySection b)
 unfolding keySection keysImage
@@ -322,6 +334,7 @@ keySection-ensures b =
             let all-but-one : allBytes b₁ ≡ true = and-right (ltb n 256) (allBytes b₁) (rw (h₁ .what .joined) at e) in
             rw (h₁ .what .joined, rising-kept 0 keys (h₂ .what .passed), h₂ .what .number, h₃ .what .stays) (ap (λ (l : Bytes). n ∷ l) (h₂ .what .joined all-but-one));
         four = refl;
+        next = rw (h₁ .what .joined, h₃ .what .stays) (h₂ .what .next);
       };
       size = omega arith;
     }))))
@@ -343,6 +356,7 @@ references-good keys references h e = simp (
 record References (keys : List Bool) (b references rest : Bytes) : Type 0 where
   joined : b ≡ referencesImage references ++ rest
   isGood : goodReferences keys references ≡ true
+  next : rest ≡ drop 22 b
 
 referenceSection-ensures : (keys : List Bool) (b : Bytes) → Ensures (Used (References keys b) 22 22 b) (referenceSection keys b)
 unfolding referenceSection referencesImage
@@ -354,6 +368,7 @@ referenceSection-ensures keys b =
       what = record {
         joined = rw (h₁ .what, h₂ .what .joined, h₃ .what .stays);
         isGood = references-good keys references (h₂ .what .number) (h₃ .what .passed);
+        next = rw (h₁ .what, h₂ .what .joined, h₃ .what .stays) (sym (drop-at references b₂ 21 (h₂ .what .number)));
       };
       size = omega arith;
     }))))
@@ -362,6 +377,7 @@ referenceSection-ensures keys b =
 record OneRecord (b : Bytes) (r : Record) (rest : Bytes) : Type 0 where
   joined : b ≡ recordImage r ++ rest
   isGood : goodRecord r ≡ true
+  next : rest ≡ drop (suc (byteAt b 0)) b
 
 readPersonal-ensures : (b : Bytes) → Ensures (Used (OneRecord b) 2 65 b) (readPersonal b)
 unfolding readPersonal recordImage
@@ -374,6 +390,7 @@ readPersonal-ensures b =
       what = record {
         joined = rw (take-filled 64 d size, h₁ .what .joined, h₂ .what .joined, h₂ .what .number);
         isGood = rw (le-leb 1 (length d) (omega arith)) (filled-room 64 d size);
+        next = rw (h₁ .what .joined, h₂ .what .joined) (sym (drop-at d rest n (h₂ .what .number)));
       };
       size = omega arith;
     })))
@@ -383,10 +400,11 @@ record SomeRecords (n : ℕ) (b : Bytes) (rs : List Record) (rest : Bytes) : Typ
   joined : b ≡ recordsImage rs ++ rest
   isGood : goodRecords n rs ≡ true
   number : length rs ≡ n
+  next : rest ≡ behindRecords n b
 
 readRecords-ensures : (n : ℕ) (b : Bytes) → Ensures (Used (SomeRecords n b) (2 * n) (65 * n) b) (readRecords n b)
-unfolding readRecords goodRecords recordsImage
-readRecords-ensures zero b = found (record { what = record { joined = refl; isGood = refl; number = refl }; size = omega arith })
+unfolding readRecords goodRecords recordsImage behindRecords
+readRecords-ensures zero b = found (record { what = record { joined = refl; isGood = refl; number = refl; next = refl }; size = omega arith })
 readRecords-ensures (suc n) b =
     goes-on (readPersonal-ensures b) (λ r b₁ h₁.
     goes-on (readRecords-ensures n b₁) (λ rs rest h₂.
@@ -395,6 +413,7 @@ readRecords-ensures (suc n) b =
         joined = rw (h₁ .what .joined, h₂ .what .joined, append-assoc);
         isGood = rw (records-first n r rs, h₁ .what .isGood) (h₂ .what .isGood);
         number = omega arith;
+        next = h₂ .what .next ∙ ap (behindRecords n) (h₁ .what .next);
       };
       size = omega arith;
     })))
@@ -404,6 +423,7 @@ record Personal (b : Bytes) (rs : List Record) (rest : Bytes) : Type 0 where
   joined : b ≡ personalImage rs ++ rest
   isGood : goodRecords 16 rs ≡ true
   sixteen : length rs ≡ 16
+  next : rest ≡ behindRecords 16 (drop 1 b)
 
 personalSection-ensures : (b : Bytes) → Ensures (Used (Personal b) 33 1041 b) (personalSection b)
 unfolding personalSection personalImage
@@ -414,9 +434,46 @@ personalSection-ensures b =
         joined = rw (h₁ .what, h₂ .what .joined);
         isGood = h₂ .what .isGood;
         sixteen = h₂ .what .number;
+        next = rw (h₁ .what) (h₂ .what .next);
       };
       size = omega arith;
     }))
+
+-- The unblocking counts, 3 bytes or none, which the bytes b give each PIN.
+record Counts (b : Bytes) (counts : List ℕ) (rest : Bytes) : Type 0 where
+  joined : b ≡ countsImage counts ++ rest
+  isGood : goodCounts counts ≡ true
+  each : (k : ℕ) → k < 3 → 1 ≤ k → countOf counts k ≡ cond (eqb (length b) 0) noLimit (byteAt b k)
+
+readCounts-ensures : (b : Bytes) → Ensures (Used (Counts b) 0 3 b) (readCounts b)
+unfolding readCounts countSection countsImage goodCounts
+readCounts-ensures [] =
+    found (record {
+      what = record {
+        joined = refl;
+        isGood = refl;
+        each = below-three (λ k. 1 ≤ k → countOf noLimits k ≡ noLimit) (λ none. absurd (omega arith)) (λ _. refl) (λ _. refl);
+      };
+      size = omega arith;
+    })
+readCounts-ensures (x ∷ b) =
+    goes-on (count-ensures 2 (x ∷ b)) (λ _ b₁ h₁.
+    goes-on (byteIf-ensures _ 28 b₁ (numbered 28 refl refl)) (λ pin1 b₂ h₂.
+    goes-on (byteIf-ensures _ 28 b₂ (numbered 28 refl refl)) (λ pin2 b₃ h₃.
+    let counts : List ℕ = pin1 ∷ pin2 ∷ [] in
+    goes-on (require-ensures (not (unlimited counts)) 28 b₃ (numbered 28 refl refl)) (λ _ b₄ h₄.
+    let some : eqb (length (x ∷ b)) 0 ≡ false = ne-eqb (length (x ∷ b)) 0 (omega arith) in
+    let bytes : x ∷ b ≡ 2 ∷ pin1 ∷ pin2 ∷ b₄ = rw (h₁ .what, h₂ .what .joined, h₃ .what .joined, h₄ .what .stays) in
+    found (record {
+      what = record {
+        joined = rw (not-true (unlimited counts) (h₄ .what .passed)) bytes;
+        isGood = simp (h₂ .what .passed, h₃ .what .passed);
+        each =
+            rw (some, bytes)
+            (below-three (λ k. 1 ≤ k → countOf counts k ≡ byteAt (2 ∷ pin1 ∷ pin2 ∷ b₄) k) (λ none. absurd (omega arith)) (λ _. refl) (λ _. refl));
+      };
+      size = omega arith;
+    })))))
 
 end-ensures : (b : Bytes) → Ensures (λ _ _. b ≡ []) (end b)
 unfolding end
@@ -435,38 +492,44 @@ pub record Fresh (image : Bytes) (c : Card) : Type 0 where
   pub session : c .session ≡ newSession
   pub unverified : (k : ℕ) → k < 3 → codeOf (c .codes) k .verified ≡ false
   pub tries : (k : ℕ) → k < 3 → codeOf (c .codes) k .tries ≡ triesAtLoad image k
+  pub counts : (k : ℕ) → 1 ≤ k → k < 3 → countOf (c .counts) k ≡ countAtLoad image k
   pub atLeast : 84 ≤ length image
-  pub atMost : length image ≤ 1115
+  pub atMost : length image ≤ 1118
 
 -- The sections are the whole image.
-sections-joined : {b₁ b₂ b₃ b₄ : Bytes} (image : Bytes) (codes : List Code) (keys : List Bool) (references : Bytes) (personal : List Record)
+sections-joined : {b₁ b₂ b₃ b₄ b₅ : Bytes} (image : Bytes) (codes : List Code) (keys : List Bool) (references : Bytes) (personal : List Record)
+    (counts : List ℕ)
     → image ≡ codesImage codes ++ b₁ → (allBytes b₁ ≡ true → b₁ ≡ keysImage keys ++ b₂) → b₂ ≡ referencesImage references ++ b₃
-    → b₃ ≡ personalImage personal ++ b₄ → b₄ ≡ [] → allBytes image ≡ true → image ≡ imageOf (cardOf codes keys references personal)
+    → b₃ ≡ personalImage personal ++ b₄ → b₄ ≡ countsImage counts ++ b₅ → b₅ ≡ [] → allBytes image ≡ true
+    → image ≡ imageOf (cardOf codes keys references personal counts)
 unfolding imageOf
-sections-joined {b₁} image codes keys references personal first second third fourth last e =
-    rw (first, second (all-right (λ x. ltb x 256) (codesImage codes) b₁ (rw first at e)), third, fourth, last, append-nil)
+sections-joined {b₁} image codes keys references personal counts first second third fourth fifth last e =
+    rw (first, second (all-right (λ x. ltb x 256) (codesImage codes) b₁ (rw first at e)), third, fourth, fifth, last, append-nil)
 
--- 84 = 24 + 5 + 22 + 33, and 1,115 = 43 + 9 + 22 + 1,041.
+-- 84 = 24 + 5 + 22 + 33, and 1,118 = 43 + 9 + 22 + 1,041 + 3.
 readCard-ensures : (image : Bytes) → Ensures (λ c _. Fresh image c) (readCard image)
-unfolding readCard goodProfile
+unfolding readCard goodProfile countAtLoad
 readCard-ensures image =
     goes-on (codeSection-ensures image) (λ codes b₁ h₁.
     goes-on (keySection-ensures b₁) (λ keys b₂ h₂.
     goes-on (referenceSection-ensures keys b₂) (λ references b₃ h₃.
     goes-on (personalSection-ensures b₃) (λ personal b₄ h₄.
-    goes-on (end-ensures b₄) (λ _ _ h₅.
-    let profile : goodProfile (cardOf codes keys references personal .profile) ≡ true =
+    goes-on (readCounts-ensures b₄) (λ counts b₅ h₅.
+    goes-on (end-ensures b₅) (λ _ _ h₆.
+    let profile : goodProfile (cardOf codes keys references personal counts .profile) ≡ true =
     simp (eq-eqb (length keys) 4 (h₂ .what .four), h₃ .what .isGood, eq-eqb (length personal) 16 (h₄ .what .sixteen), h₄ .what .isGood) in
-    let none : length b₄ ≡ 0 = ap length h₅ in
+    let none : length b₅ ≡ 0 = ap length h₆ in
+    let last : b₄ ≡ lastSection image = rw (← h₁ .what .next, ← h₂ .what .next, ← h₃ .what .next) (h₄ .what .next) in
     found (record {
-      isGood = good-card (cardOf codes keys references personal) (h₁ .what .isGood) profile (new-session-good keys);
-      joined = sections-joined image codes keys references personal (h₁ .what .joined) (h₂ .what .joined) (h₃ .what .joined) (h₄ .what .joined) h₅;
+      isGood = good-card (cardOf codes keys references personal counts) (h₁ .what .isGood) (h₅ .what .isGood) profile (new-session-good keys);
+      joined = sections-joined image codes keys references personal counts (h₁ .what .joined) (h₂ .what .joined) (h₃ .what .joined) (h₄ .what .joined) (h₅ .what .joined) h₆;
       session = refl;
       unverified = h₁ .what .unverified;
       tries = h₁ .what .tries;
+      counts = λ k low h. h₅ .what .each k h low ∙ ap (λ (b : Bytes). cond (eqb (length b) 0) noLimit (byteAt b k)) last;
       atLeast = omega arith;
       atMost = omega arith;
-    }))))))
+    })))))))
 
 -- An accepted image's card is what was read.
 accepted : {Q : Card → Type 0} (r : Read Card) → Ensures (λ c _. Q c) r → loaded r .0 ≡ 0 → Q (loaded r .1)
@@ -480,7 +543,7 @@ fresh image e = accepted (readCard image) (readCard-ensures image) e
 
 -- A refused image's number is a fault's, and its card is the all-zero state.
 refused : {Q : Card → Bytes → Type 0} (r : Read Card) → Ensures Q r → ¬ (loaded r .0 ≡ 0)
-    → (loaded r .1 ≡ zeroCard) × (21 ≤ loaded r .0) × (loaded r .0 ≤ 27)
+    → (loaded r .1 ≡ zeroCard) × (21 ≤ loaded r .0) × (loaded r .0 ≤ 28)
 unfolding loaded
 refused (got c rest) h n = absurd (n refl)
 refused (fault f) h n = (refl, h .ensured .least, h .ensured .most)
@@ -492,5 +555,6 @@ images = record {
   session = λ image e. fresh image e .session;
   unverified = λ image e. fresh image e .unverified;
   tries = λ image e. fresh image e .tries;
+  counts = λ image e. fresh image e .counts;
   refused = λ image n. refused (readCard image) (readCard-ensures image) n;
 }

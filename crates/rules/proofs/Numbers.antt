@@ -18,7 +18,7 @@ use Rattle.rules.specs.declared.Reply.{Reply}
 use Rattle.rules.specs.declared.Reply.the-variants.{Refused, Response, HandedOut, WasReset}
 use Rattle.rules.specs.declared.Fault.{Fault}
 use Rattle.rules.specs.declared.Fault.the-variants.{EndsEarly, WrongCount, BadCode, BadKey, BadReference}
-use Rattle.rules.specs.declared.Fault.the-variants.{RecordLength, LeftOver}
+use Rattle.rules.specs.declared.Fault.the-variants.{RecordLength, LeftOver, UnblockingCount}
 use Rattle.rules.specs.declared.LoadResult.{LoadResult}
 use Rattle.rules.specs.declared.LoadResult.the-variants.{Accepted, Faulty}
 use Rattle.rules.specs.declared.WriteResult.{WriteResult}
@@ -76,7 +76,8 @@ loadOf n =
     (cond (eqb n 24) (Faulty BadKey)
     (cond (eqb n 25) (Faulty BadReference)
     (cond (eqb n 26) (Faulty RecordLength)
-    (Faulty LeftOver)))))))
+    (cond (eqb n 27) (Faulty LeftOver)
+    (Faulty UnblockingCount))))))))
 
 load-back : (a : LoadResult) → loadOf (loadNumber a) ≡ a
 unfolding loadOf
@@ -88,6 +89,7 @@ load-back (Faulty BadKey) = refl
 load-back (Faulty BadReference) = refl
 load-back (Faulty RecordLength) = refl
 load-back (Faulty LeftOver) = refl
+load-back (Faulty UnblockingCount) = refl
 
 faultIn : LoadResult → Fault
 faultIn Accepted = LeftOver

@@ -15,10 +15,10 @@ use Rattle.octets.proofs.Strings.{zeros-blank, length-filled, take-filled, rest
 use Rattle.rules.specs.declared.Card.{Card}
 use Rattle.rules.specs.declared.Code.{Code}
 use Rattle.rules.specs.Codes.{PUK, PIN1, PIN2, least, most, fullTries, allowed, value, storing, marked, zeroCode}
-use Rattle.rules.specs.Codes.{codeOf}
+use Rattle.rules.specs.Codes.{codeOf, noLimit, countOf}
 use Rattle.rules.specs.declared.Profile.{Profile}
 use Rattle.rules.specs.declared.Record.{Record}
-use Rattle.rules.specs.State.{goodCode, goodCodes, goodReferences, goodRecord, goodRecords, goodProfile, goodSession, good}
+use Rattle.rules.specs.State.{goodCode, goodCodes, goodCounts, goodReferences, goodRecord, goodRecords, goodProfile, goodSession, good}
 
 -- A string in room of a stated size.
 module _ (size : ℕ) (bytes : Bytes) (len : ℕ) (g : goodRoom size bytes len ≡ true) where
@@ -131,6 +131,29 @@ pub codes-good : (codes : List Code) → length codes ≡ 3 → ((k : ℕ) → k
 unfolding goodCodes
 codes-good codes n each = simp (eq-eqb (length codes) 3 n, each 0 (omega arith), each 1 (omega arith), each 2 (omega arith))
 
+-- Good unblocking counts.
+module _ (counts : List ℕ) (g : goodCounts counts ≡ true) where
+  abbrev counts-tests : List Bool
+  counts-tests = eqb (length counts) 2 ∷ leb (countOf counts PIN1) noLimit ∷ leb (countOf counts PIN2) noLimit ∷ []
+
+  pub two-counts : length counts ≡ 2
+  unfolding goodCounts
+  two-counts = eqb-true (length counts) 2 (nth counts-tests 0 g)
+
+  pub good-place : (i : ℕ) → i < 2 → getD counts i 0 ≤ noLimit
+  unfolding goodCounts
+  good-place zero h = leb-true (getD counts 0 0) noLimit (nth counts-tests 1 g)
+  good-place (suc zero) h = leb-true (getD counts 1 0) noLimit (nth counts-tests 2 g)
+  good-place (suc (suc i)) h = absurd (omega arith)
+
+  pub good-count : (k : ℕ) → k < 3 → 1 ≤ k → countOf counts k ≤ noLimit
+  good-count k h low = good-place (k - 1) (omega arith)
+
+pub counts-good : (counts : List ℕ) → length counts ≡ 2 → ((i : ℕ) → i < 2 → getD counts i 0 ≤ noLimit) → goodCounts counts ≡ true
+unfolding goodCounts
+counts-good counts n each =
+    simp (eq-eqb (length counts) 2 n, le-leb (getD counts 0 0) noLimit (each 0 (omega arith)), le-leb (getD counts 1 0) noLimit (each 1 (omega arith)))
+
 -- Good records: the first, and the others.
 pub records-first : (n : ℕ) (r : Record) (rs : List Record) → goodRecords (suc n) (r ∷ rs) ≡ (goodRecord r && goodRecords n rs)
 unfolding goodRecords
@@ -166,25 +189,34 @@ module _ (p : Profile) (g : goodProfile p ≡ true) where
 -- A good card's parts.
 module _ (c : Card) (g : good c ≡ true) where
   abbrev card-tests : List Bool
-  card-tests = goodCodes (c .codes) ∷ goodProfile (c .profile) ∷ goodSession (c .profile .keys) (c .session) ∷ []
+  card-tests =
+      goodCodes (c .codes)
+      ∷ goodCounts (c .counts)
+      ∷ goodProfile (c .profile)
+      ∷ goodSession (c .profile .keys) (c .session)
+      ∷ []
 
   pub good-codes : goodCodes (c .codes) ≡ true
   unfolding good
   good-codes = nth card-tests 0 g
 
+  pub good-counts : goodCounts (c .counts) ≡ true
+  unfolding good
+  good-counts = nth card-tests 1 g
+
   pub good-profile : goodProfile (c .profile) ≡ true
   unfolding good
-  good-profile = nth card-tests 1 g
+  good-profile = nth card-tests 2 g
 
   pub good-session : goodSession (c .profile .keys) (c .session) ≡ true
   unfolding good
-  good-session = nth card-tests 2 g
+  good-session = nth card-tests 3 g
 
 -- A good card made of good parts.
-pub good-card : (c : Card) → goodCodes (c .codes) ≡ true → goodProfile (c .profile) ≡ true → goodSession (c .profile .keys) (c .session) ≡ true
-    → good c ≡ true
+pub good-card : (c : Card) → goodCodes (c .codes) ≡ true → goodCounts (c .counts) ≡ true → goodProfile (c .profile) ≡ true
+    → goodSession (c .profile .keys) (c .session) ≡ true → good c ≡ true
 unfolding good
-good-card c codes profile session = simp (codes, profile, session)
+good-card c codes counts profile session = simp (codes, counts, profile, session)
 
 -- Each of good codes has a place.
 pub code-place : (codes : List Code) → goodCodes codes ≡ true → (k : ℕ) → k < 3 → k < length codes

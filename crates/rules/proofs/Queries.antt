@@ -7,7 +7,7 @@ use native.Mathlib.Omega.{arith}
 use lib.Dec.{eqb}
 use borrow.Author.Tests.{eqb-true, leb-false, ne-eqb, le-leb, not-true}
 use Rattle.octets.specs.Octets.{Bytes}
-use Rattle.octets.proofs.Tests.{split, by-test, and-left, and-right, never}
+use Rattle.octets.proofs.Tests.{by-test, and-left, and-right, never}
 use Rattle.rules.specs.declared.Card.{Card}
 use Rattle.rules.specs.declared.Code.{Code}
 use Rattle.rules.specs.declared.CodeStep.{CodeStep}
@@ -16,15 +16,15 @@ use Rattle.rules.specs.declared.Command.the-variants.{Select, ReadRecord
 use Rattle.rules.specs.declared.Command.the-variants.{ResetRetry, SetEnvironment, ChooseKey, InternalAuthenticate}
 use Rattle.rules.specs.declared.Command.the-variants.{ComputeSignature, Decipher}
 use Rattle.rules.specs.declared.Header.{Header}
-use Rattle.rules.specs.Numbers.{LengthForm, form, refused, Naming}
+use Rattle.rules.specs.Numbers.{LengthForm, form, refused}
 use Rattle.rules.specs.Apdu.{parse, dataOf}
 use Rattle.rules.specs.Codes.{PIN2, codeOf}
 use Rattle.rules.specs.Session.{dropBoth}
 use Rattle.rules.specs.State.{goodCodes}
 use Rattle.rules.specs.Answers.{response, Step, codeStatus, inCodes}
 use Rattle.rules.specs.CodeCommands.{queried, verify}
-use Rattle.rules.specs.Judgement.{commands, instruction, parameters, hasData, lengths, ownRules, refusal, knownClass}
-use Rattle.rules.specs.Judgement.{knownInstruction, badChaining, namedIn, judgeNamed, judgeHeader, judgeForm, judge}
+use Rattle.rules.specs.Judgement.{instruction, parameters, hasData, lengths, ownRules, refusal}
+use Rattle.rules.specs.Judgement.{knownInstruction, namedIn, judgeNamed, judgeHeader, judgeForm, judge}
 use Rattle.rules.specs.Edge.{Result, refuse, written, answered, command}
 use Rattle.rules.specs.Counting.{Call, Command, Delivery, PowerReset, Exchange, step, exchange, exchangeOf, next, trace}
 use Rattle.rules.specs.Counting.{number, statusWord, returnedStatus, returnedKind, formSends, sentBy, readOff}
@@ -36,7 +36,7 @@ use Rattle.rules.proofs.StatusWords.{status-read, wrong-status, wrong-n
 use Rattle.rules.proofs.Parts.{good-code, good-codes, code-tries}
 use Rattle.rules.proofs.Forms.{asked}
 use Rattle.rules.proofs.Walks.{queried-walk, verify-walk, command-walk}
-use Rattle.rules.proofs.Keeping.{Found, is, nothing, found, verify-code}
+use Rattle.rules.proofs.Keeping.{header-walk, verify-code}
 
 -- What a status word tells of a code.
 record Told (v : Code) (sw : ℕ) : Type 0 where
@@ -71,10 +71,11 @@ module _ (v : Code) where
     has-tries = λ _. some;
   }
 
--- The codes as they were and a status word alone, which tells what code k is.
+-- The codes and the unblocking counts as they were and a status word alone, which tells what code k is.
 record Gives (c : Card) (k : ℕ) (o : Step) : Type 0 where
   word : ℕ
   codes : o .codes ≡ c .codes
+  counts : o .counts ≡ c .counts
   answer : o .answer ≡ response [] word
   told : Told (codeOf (c .codes) k) word
 
@@ -118,7 +119,7 @@ module _ (h : Header) (q : queries h ≡ true) where
     G = Gives c (h .p2)
 
     refused-with : (sw : ℕ) → okStatus sw ≡ false → wrongStatus sw ≡ false → blockedStatus sw ≡ false → G (refusal c sw)
-    refused-with sw ok wr bl = record { word = sw; codes = refl; answer = refl; told = other-word v sw ok wr bl }
+    refused-with sw ok wr bl = record { word = sw; codes = refl; counts = refl; answer = refl; told = other-word v sw ok wr bl }
 
     own : (o : Instruction) → h .ins ≡ instruction o → parameters o (h .p1) (h .p2) ≡ true → G (ownRules o c h d auth sig)
     unfolding ownRules instruction
@@ -128,14 +129,15 @@ module _ (h : Header) (q : queries h ≡ true) where
     own GetResponse e _ = never (rw e) is-verify
     own Verify e fits =
         let few : v .tries ≤ 3 = code-tries (h .p2) v (good-code (c .codes) g (h .p2) (verify-code h fits)) in
-        let T : CodeStep → Type 0 = λ o. G (inCodes (dropBoth (c .session)) o) in
+        let T : CodeStep → Type 0 = λ o. G (inCodes (c .counts) (dropBoth (c .session)) o) in
         verify-walk T (c .codes) h d
         (λ _. queried-walk T (c .codes) (h .p2)
-        (λ none. record { word = 0x6983; codes = refl; answer = refl; told = word-6983 v none })
-        (λ some given. record { word = 0x9000; codes = refl; answer = refl; told = word-9000 v some given })
+        (λ none. record { word = 0x6983; codes = refl; counts = refl; answer = refl; told = word-6983 v none })
+        (λ some given. record { word = 0x9000; codes = refl; counts = refl; answer = refl; told = word-9000 v some given })
         (λ some not-given. record {
           word = 0x63C0 + v .tries;
           codes = refl;
+          counts = refl;
           answer = refl;
           told = word-63Cx v (omega arith) some not-given;
         }))
@@ -148,19 +150,12 @@ module _ (h : Header) (q : queries h ≡ true) where
     own ComputeSignature e _ = never (rw e) is-verify
     own Decipher e _ = never (rw e) is-verify
 
-    named : {n : Naming} → Found h n → G (judgeNamed n c h d auth sig)
-    unfolding judgeNamed okStatus wrongStatus
-    named nothing = refused-with 0x6A86 refl refl refl
-    named (is o fits) =
-        split G (not (lengths o h)) (λ _. refused-with 0x6700 refl refl refl) (λ _. own o (fits .ins) (fits .parameters))
-
     judged-plainly : G (judgeHeader c h d auth sig)
-    unfolding judgeHeader okStatus wrongStatus
+    unfolding okStatus wrongStatus
     judged-plainly =
-        split G (not (knownClass h)) (λ _. refused-with 0x6E00 refl refl refl)
-        (λ _. split G (not (knownInstruction h)) (λ _. refused-with 0x6D00 refl refl refl)
-        (λ _. split G (badChaining h) (λ _. refused-with 0x6884 refl refl refl)
-        (λ _. named (found h commands))))
+        header-walk G c h d auth sig (refused-with 0x6E00 refl refl refl) (refused-with 0x6D00 refl refl refl)
+        (refused-with 0x6884 refl refl refl) (refused-with 0x6A86 refl refl refl) (refused-with 0x6700 refl refl refl)
+        (λ _ o fits _. own o (fits .ins) (fits .parameters))
 
 -- A call that is a query.
 module _ (c : Card) (b auth sig w : Bytes) (h : Header) (start : ℕ) (p : parse b ≡ form h start) (q : queries h ≡ true) where
@@ -169,16 +164,23 @@ module _ (c : Card) (b auth sig w : Bytes) (h : Header) (start : ℕ) (p : parse
 
   record Answers (o : Result) : Type 0 where
     codes : o .card .codes ≡ c .codes
+    counts : o .card .counts ≡ c .counts
     kind : returnedKind (o .returned) ≡ 0
     told : Told (codeOf (c .codes) (h .p2)) (statusWord (exchangeOf x o))
 
   edge-refusal : (n : ℕ) → Answers (refuse c w n)
   unfolding returnedKind returnedStatus okStatus wrongStatus
-  edge-refusal n = record { codes = refl; kind = refl; told = other-word _ 0 refl refl refl }
+  edge-refusal n = record { codes = refl; counts = refl; kind = refl; told = other-word _ 0 refl refl refl }
 
   word-written : (o : Step) → Gives c (h .p2) o → Answers (answered w c o)
   unfolding written returnedKind
-  word-written o s = record { codes = rw (s .answer) (s .codes); kind = rw (s .answer); told = rw (s .answer, status-read w (s .word)) (s .told) }
+  word-written o s =
+      record {
+        codes = rw (s .answer) (s .codes);
+        counts = rw (s .answer) (s .counts);
+        kind = rw (s .answer);
+        told = rw (s .answer, status-read w (s .word)) (s .told);
+      }
 
   gives : Answers (command c b auth sig w)
   unfolding judge judgeForm
@@ -198,7 +200,7 @@ module _ (c : Card) (b auth sig w : Bytes) (h : Header) (start : ℕ) (p : parse
     second-parameter =
         eqb-true _ k (and-right (queries h) _ (and-left _ (eqb (h .cla) 0x00) (and-left _ (eqb (h .p1) 0x00) plain)))
 
-    plainly-judged : (d : Bytes) → judgeHeader c h d auth sig ≡ inCodes (dropBoth (c .session)) (queried (c .codes) (h .p2))
+    plainly-judged : (d : Bytes) → judgeHeader c h d auth sig ≡ inCodes (c .counts) (dropBoth (c .session)) (queried (c .codes) (h .p2))
     unfolding judgeHeader knownInstruction instruction namedIn parameters judgeNamed lengths ownRules verify
     plainly-judged d =
         simp (ins h q, class, first-parameter, no-data h q, le-leb (h .p2) 2 (omega (arith, second-parameter)))
@@ -210,7 +212,7 @@ module _ (c : Card) (b auth sig w : Bytes) (h : Header) (start : ℕ) (p : parse
     unfolding returnedStatus
     edge-word n = refl
 
-    word-told : (sw : ℕ) → queryStatus sw ≡ true → A (answered w c (inCodes (dropBoth (c .session)) (codeStatus (c .codes) sw)))
+    word-told : (sw : ℕ) → queryStatus sw ≡ true → A (answered w c (inCodes (c .counts) (dropBoth (c .session)) (codeStatus (c .codes) sw)))
     unfolding written
     word-told sw e = ap queryStatus (status-read w sw) ∙ e
 
@@ -222,7 +224,7 @@ module _ (c : Card) (b auth sig w : Bytes) (h : Header) (start : ℕ) (p : parse
         let t = codeOf (c .codes) (h .p2) .tries in
         let low : t ≤ 3 = code-tries (h .p2) _ (good-code (c .codes) (good-codes c g) (h .p2) (omega (arith, second-parameter))) in
         rw (p, plainly-judged (dataOf b start h))
-        (queried-walk (λ o. A (answered w c (inCodes (dropBoth (c .session)) o))) (c .codes) (h .p2)
+        (queried-walk (λ o. A (answered w c (inCodes (c .counts) (dropBoth (c .session)) o))) (c .codes) (h .p2)
         (λ _. word-told 0x6983 refl)
         (λ _ _. word-told 0x9000 refl)
         (λ _ _. word-told (0x63C0 + t) (simp (wrong-status t (omega arith), or-true)))))
@@ -239,6 +241,7 @@ module _ (c : Card) (b auth sig w : Bytes) (h : Header) (start : ℕ) (p : parse
       let presented-none = presents-nothing h (ins h q) (no-data h q) in
       record {
         codes = gives .codes;
+        counts = gives .counts;
         wrong = λ k. adds-nothing (wrongAnswer k) (rw (tested (presents k), presented-none k, and-false));
         restored = λ k. adds-nothing (restoration k) (rw (tested (presents k), presented-none k, and-false));
         unblocked = λ k. adds-nothing (unblocking k) (rw (tested (unblocks k), unblocks-nothing h (ins h q) (no-data h q) k, and-false));

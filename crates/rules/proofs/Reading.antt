@@ -31,7 +31,7 @@ use Rattle.rules.specs.Demands.{Room, LengthFits, Idle}
 use Rattle.rules.specs.Reading.{readAt, returnedData, wholeBlock, Collected, stopped, joined, readBlocks}
 use Rattle.rules.specs.Reading.{lastWord, Readable, certificateShown, ReadInBlocks}
 use Rattle.rules.proofs.StatusWords.{response-sized, response-status}
-use Rattle.rules.proofs.Parts.{good-codes, good-profile, good-card}
+use Rattle.rules.proofs.Parts.{good-codes, good-counts, good-profile, good-card}
 use Rattle.rules.proofs.Keeping.{dropped}
 use Rattle.rules.proofs.Demand1.{lent-good}
 use Rattle.rules.proofs.Certificates.{offset-past-end, part-read}
@@ -47,13 +47,13 @@ module _ (offset n : ℕ) (some : 1 ≤ n) where
 
   read-judged : offset < 0x8000 → (c : Card) (d authentication signature : Bytes)
       → judgeHeader c (readHeader offset n) d authentication signature
-      ≡ inSession (c .codes) (readBinary (dropBoth (c .session)) (readHeader offset n) authentication signature)
+      ≡ inSession (c .codes) (c .counts) (readBinary (dropBoth (c .session)) (readHeader offset n) authentication signature)
   unfolding judgeHeader knownInstruction instruction namedIn parameters judgeNamed lengths ownRules
   read-judged near c d authentication signature = simp (lt-ltb (offset / 256) 0x80 (omega arith), le-leb 1 n some)
 
 -- The card after it, and a card that the reader can read on.
 abbrev afterReading : Card → Card
-afterReading c = record { codes = c .codes; profile = c .profile; session = dropBoth (c .session) }
+afterReading c = record { codes = c .codes; counts = c .counts; profile = c .profile; session = dropBoth (c .session) }
 
 record Ready (file : ℕ) (c : Card) : Type 0 where
   good : good c ≡ true
@@ -63,7 +63,7 @@ record Ready (file : ℕ) (c : Card) : Type 0 where
 ready-after : {file : ℕ} {c : Card} → Ready file c → Ready file (afterReading c)
 ready-after {file} {c} r =
     record {
-      good = good-card (afterReading c) (good-codes c (r .good)) (good-profile c (r .good)) (dropped c (r .good) (r .idle));
+      good = good-card (afterReading c) (good-codes c (r .good)) (good-counts c (r .good)) (good-profile c (r .good)) (dropped c (r .good) (r .idle));
       idle = r .idle;
       selected = r .selected;
     }
@@ -116,7 +116,7 @@ module _ (file : ℕ) (readable : certificateFile file ≡ true) (authentication
           eq-eqb (c .session .job .kind) 0 (r .idle),
           read-form offset n some,
           read-judged offset n some (omega (arith, size-most)) c,
-        ) (ap (λ (o : SessionStep). answered w c (inSession (c .codes) o)) e)
+        ) (ap (λ (o : SessionStep). answered w c (inSession (c .codes) (c .counts) o)) e)
 
     certificate-here : certificateOf (c .session .selection .file) authentication signature ≡ certificate
     certificate-here = ap (λ (f : ℕ). certificateOf f authentication signature) (r .selected)

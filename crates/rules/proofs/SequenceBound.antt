@@ -1,21 +1,23 @@
--- Demand 3's two bounds follow from the code sheet: what one call adds, and the sum over a sequence.
+-- Demand 3's bounds follow from the code sheet: what one call adds, and the sum over a sequence.
 use mathlib.Core.Path.{_≡_, refl, ap, _∙_}
 use mathlib.Core.Bool.{Bool, true, false, not, cond, _&&_, _||_, or-true, false≢true}
 use mathlib.Core.List.{List, [], _∷_}
 use Prim.Native.Nat.{ℕ, _+_, _-_, _*_, _≤_, _<_}
 use native.Mathlib.Omega.{arith}
 use lib.Dec.{eqb}
+use borrow.Author.Tests.{ne-eqb}
 use Rattle.octets.specs.Octets.{Bytes}
 use Rattle.octets.proofs.Tests.{and-left}
 use Rattle.rules.specs.declared.Card.{Card}
 use Rattle.rules.specs.Numbers.{Returned, edge, responded, handedOut, wasReset}
-use Rattle.rules.specs.Codes.{PIN2, codeOf}
+use Rattle.rules.specs.Codes.{PIN2, codeOf, noLimit, countOf, lowered}
 use Rattle.rules.specs.Counting.{Call, Exchange, next, exchange, after, trace, returnedStatus, returnedKind}
 use Rattle.rules.specs.Counting.{byCommand, okStatus, wrongAnswer, restoration, unblocking, rightVerify, changed}
 use Rattle.rules.specs.Counting.{handsSignature, one, wrongAnswers, restorations, unblockings, signatures}
 use Rattle.rules.specs.Counting.{pin2Presentations, pin2Changes}
 use Rattle.rules.specs.CodeSheet.{opens, closes}
 use Rattle.rules.proofs.Sheet.{code-after}
+use Rattle.rules.proofs.Counts.{count-column}
 
 -- Tries before and after a call that may be a wrong answer, a restoration, an unblocking.
 tries-step : (w r u : Bool) (before after : ℕ) → after ≡ cond w (before - 1) (cond (r || u) 3 before) → (w ≡ true → 1 ≤ before) → (r ≡ true → 1 ≤ before)
@@ -90,3 +92,26 @@ mark-run c (x ∷ xs) = omega (arith, mark-run (next c x) xs, mark-moved c x)
 pub signature-bound : (c : Card) (xs : List Call) → codeOf (c .codes) PIN2 .verified ≡ false
     → signatures (trace c xs) ≤ pin2Presentations (trace c xs) + pin2Changes (trace c xs)
 signature-bound c xs m = omega (arith, mark-run c xs, ap one m)
+
+-- A PIN's unblocking count that is not A5h, before and after a call that may unblock it.
+count-step : (u : Bool) (before after : ℕ) → after ≡ cond u (lowered before) before → (u ≡ true → 1 ≤ before) → before < noLimit
+    → one u + after ≤ before
+unfolding lowered
+count-step true before after e some limit = omega (arith, rw (ne-eqb before noLimit (omega arith)) at e, some refl)
+count-step false before after e some limit = omega (arith, e)
+
+module _ (k : ℕ) (low : 1 ≤ k) where
+  count-moved : (c : Card) (x : Call) → countOf (c .counts) k < noLimit
+      → one (unblocking k (exchange c x)) + countOf (next c x .counts) k ≤ countOf (c .counts) k
+  count-moved c x limit = let s = count-column k low c x in count-step _ _ _ (s .count) (s .notAtZero) limit
+
+  count-run : (c : Card) (xs : List Call) → countOf (c .counts) k < noLimit
+      → unblockings k (trace c xs) + countOf (after c xs .counts) k ≤ countOf (c .counts) k
+  count-run c [] limit = omega arith
+  count-run c (x ∷ xs) limit =
+      let moved = count-moved c x limit in
+      omega (arith, count-run (next c x) xs (omega (arith, moved)), moved)
+
+  -- unblockings are at most the count before, where that is not A5h
+  pub unblocking-bound : (c : Card) (xs : List Call) → countOf (c .counts) k < noLimit → unblockings k (trace c xs) ≤ countOf (c .counts) k
+  unblocking-bound c xs limit = omega (arith, count-run c xs limit)

@@ -38,7 +38,7 @@ use Rattle.rules.proofs.Parts.{code-length, code-digits, code-allowed, 
 use Rattle.rules.proofs.Sheet.{code-after}
 use Rattle.rules.proofs.SequenceMet.{dataApdu, dataHeader, data-form, data-bytes, verify-judged, right-judged, afterVerify}
 use Rattle.rules.proofs.SequenceMet.{buffer, certificate, sent, sent-bytes, buffer-taken, value-least, value-most}
-use Rattle.rules.proofs.SequenceMet.{gives, leads-to, counts}
+use Rattle.rules.proofs.SequenceMet.{gives, leads-to, test-read}
 
 -- A good card without a job, in environment 1, on which PIN2 has a try left.
 pub record Openable (c : Card) : Type 0 where
@@ -102,7 +102,7 @@ module _ (c : Card) (g : goodCode PIN2 (codeOf (c .codes) PIN2) ≡ true) (some 
       )
 
   change-judged : judgeHeader c (dataHeader 0x24 PIN2 both) (dataOf (dataApdu 0x24 PIN2 both) dataStart (dataHeader 0x24 PIN2 both)) certificate certificate
-      ≡ inCodes (dropBoth (c .session)) (codeStatus (afterChange (c .codes)) 0x9000)
+      ≡ inCodes (c .counts) (dropBoth (c .session)) (codeStatus (afterChange (c .codes)) 0x9000)
   unfolding judgeHeader knownInstruction instruction namedIn parameters judgeNamed lengths ownRules
   change-judged =
       simp (
@@ -136,7 +136,7 @@ module _ (c : Card) (g : good c ≡ true) where
 module _ (kept : (c : Card) (x : Call) → ofBytes x ≡ true → good c ≡ true → good (next c x) ≡ true) where
   -- A command with header h, answered 9000, after which PIN2 is verified.
   module _ (c : Card) (before : Openable c) (codes : List Code) (apdu : Bytes) (h : Header) (formed : parse apdu ≡ form h dataStart)
-      (judgement : judgeHeader c h (dataOf apdu dataStart h) certificate certificate ≡ inCodes (dropBoth (c .session)) (codeStatus codes 0x9000)) where
+      (judgement : judgeHeader c h (dataOf apdu dataStart h) certificate certificate ≡ inCodes (c .counts) (dropBoth (c .session)) (codeStatus codes 0x9000)) where
     opening : allBytes apdu ≡ true → codeOf codes PIN2 .verified ≡ true → codeOf codes PIN2 .tries ≡ 3
         → Opening c (sent apdu) (one (verifies PIN2 h)) (one (changes PIN2 h))
     unfolding okStatus written returnedKind
@@ -145,8 +145,8 @@ module _ (kept : (c : Card) (x : Call) → ofBytes x ≡ true → good c ≡ tru
         let isGood = before .isGood in
         let noJob = before .noJob in
         let x-bytes = sent-bytes apdu bytes in
-        let tested = counts kept c codes apdu h dataStart 0x9000 isGood noJob formed judgement okStatus in
-        let to = leads-to kept c codes apdu h dataStart 0x9000 isGood noJob formed judgement in
+        let tested = test-read kept c codes (c .counts) apdu h dataStart 0x9000 isGood noJob formed judgement okStatus in
+        let to = leads-to kept c codes (c .counts) apdu h dataStart 0x9000 isGood noJob formed judgement in
         record {
           bytes = x-bytes;
           opened = rw to (record {
@@ -155,7 +155,7 @@ module _ (kept : (c : Card) (x : Call) → ofBytes x ≡ true → good c ≡ tru
           });
           presented = ap one (tested (verifies PIN2));
           changes = ap one (tested (changes PIN2));
-          unsigned = rw (gives kept c codes apdu h dataStart 0x9000 isGood noJob formed judgement);
+          unsigned = rw (gives kept c codes (c .counts) apdu h dataStart 0x9000 isGood noJob formed judgement);
         }
 
   module _ (c : Card) (before : Openable c) where
@@ -180,7 +180,7 @@ module _ (kept : (c : Card) (x : Call) → ofBytes x ≡ true → good c ≡ tru
         simp (le-leb 1 (length (value v)) some) at
         (opening c before (afterVerify (c .codes) PIN2) (dataApdu 0x20 PIN2 (value v)) (dataHeader 0x20 PIN2 (value v))
         (data-form 0x20 PIN2 (value v) some)
-        (verify-judged PIN2 (value v) some c (omega arith) ∙ ap (inCodes (dropBoth (c .session))) (right-judged (c .codes) PIN2 (before .left)))
+        (verify-judged PIN2 (value v) some c (omega arith) ∙ ap (inCodes (c .counts) (dropBoth (c .session))) (right-judged (c .codes) PIN2 (before .left)))
         (data-bytes 0x20 PIN2 (value v) (omega arith) (omega arith) (omega (arith, value-most PIN2 v v-good)) digits)
         (ap (λ (v : Code). v .verified) now)
         (ap (λ (v : Code). v .tries) now))
@@ -205,7 +205,7 @@ module _ (kept : (c : Card) (x : Call) → ofBytes x ≡ true → good c ≡ tru
     key = jobKey (c .profile .references) (dropBoth (c .session)) (kindNumber Sign)
 
     abbrev signed : Card
-    signed = cardAfter c (inSession (closed (c .codes) PIN2) (handOut (dropBoth (c .session)) (kindNumber Sign) key 0 []))
+    signed = cardAfter c (inSession (closed (c .codes) PIN2) (c .counts) (handOut (dropBoth (c .session)) (kindNumber Sign) key 0 []))
 
     hands-out : step c signing ≡ written buffer signed (job (kindNumber Sign) key (padded sha1Digest))
     unfolding signApdu step command judge judgeForm parse judgeHeader knownInstruction instruction namedIn parameters judgeNamed lengths ownRules sign isDigest prefixed

@@ -22,7 +22,7 @@ use Rattle.rules.specs.declared.Header.{Header}
 use Rattle.rules.specs.declared.Profile.{Profile}
 use Rattle.rules.specs.declared.Session.{Session}
 use Rattle.rules.specs.declared.Verdict.the-variants.{Right, Wrong}
-use Rattle.rules.specs.Numbers.{Returned, LengthForm, form, refused, Naming}
+use Rattle.rules.specs.Numbers.{Returned, LengthForm, form, refused}
 use Rattle.rules.specs.Codes.{PUK, PIN1, PIN2, value, storing, withValue, marked, codeOf, withCode, closed}
 use Rattle.rules.specs.Apdu.{parse, dataOf}
 use Rattle.rules.specs.Session.{dropBoth}
@@ -34,7 +34,7 @@ use Rattle.rules.specs.KeyCommands.{setEnvironment, chooseKey, internalA
 use Rattle.rules.specs.CodeCommands.{swNotAllowed, swHasTries, verdict, judged, queried, verify, newValue, change}
 use Rattle.rules.specs.CodeCommands.{unblocked, unblockByVerifiedPuk, unblockByPresentedPuk, resetRetry}
 use Rattle.rules.specs.Judgement.{commands, instruction, parameters, hasData, lengths, ownRules, refusal}
-use Rattle.rules.specs.Judgement.{knownClass, knownInstruction, badChaining, judgeNamed, judgeHeader, judgeForm}
+use Rattle.rules.specs.Judgement.{judgeHeader, judgeForm}
 use Rattle.rules.specs.Judgement.{judge}
 use Rattle.rules.specs.Delivery.{deliver}
 use Rattle.rules.specs.Edge.{Result, refuse, written, cardAfter, answered, command, delivery, powerReset}
@@ -42,7 +42,7 @@ use Rattle.rules.specs.Counting.{Call, Command, Delivery, PowerReset, Ex
 use Rattle.rules.specs.Counting.{returnedStatus, returnedKind, formSends, sentBy, readOff, dataSent, isCommand}
 use Rattle.rules.specs.Counting.{okStatus, wrongStatus, verifies, changes, presentsPuk, unblocks, presents}
 use Rattle.rules.specs.Counting.{answers, wrongAnswer, restoration, unblocking, rightVerify, changed, handsSignature}
-use Rattle.rules.specs.CodeSheet.{CodeSheet, verifiedAfter, valueAfter, anyUnblocks, anyUnblocked}
+use Rattle.rules.specs.CodeSheet.{verifiedAfter, valueAfter, anyUnblocks, anyUnblocked}
 use Rattle.rules.specs.CodeSheet.{byVerifiedPuk, presentedBy, presentedIn, handsPin1Job, storesPin, resetDone}
 use Rattle.rules.specs.CodeSheet.{opens, closes, Sheet}
 use Rattle.rules.proofs.StatusWords.{status-read, wrong-status, wrong-not-ok}
@@ -53,8 +53,8 @@ use Rattle.rules.proofs.Walks.{setEnvironment-walk, chooseKey-walk, aut
 use Rattle.rules.proofs.Walks.{verdict-walk, queried-walk, verify-walk, replaced-walk, verifiedPuk-walk, resetRetry-walk}
 use Rattle.rules.proofs.Walks.{command-walk, delivery-walk, refusing}
 use Rattle.rules.proofs.Forms.{refusal-6700, asked}
-use Rattle.rules.proofs.Keeping.{Found, is, nothing, found, verify-code, change-code, reset-code}
-use Rattle.rules.proofs.Queries.{verifies-nothing, presents-nothing, unblocks-nothing, asked-about}
+use Rattle.rules.proofs.Keeping.{header-walk, verify-code, change-code, reset-code}
+use Rattle.rules.proofs.Queries.{verifies-nothing, presents-nothing, unblocks-nothing}
 
 -- An exchange that neither opens, closes, judges, stores nor unblocks code k, and hands out no signature.
 record Silent (k : ℕ) (e : Exchange) : Type 0 where
@@ -266,7 +266,7 @@ module _ (k : ℕ) (h : Header) where
   unfolding presentsPuk
   presentsPuk-no n = rw n
 
-  unblocks-no : eqb (h .ins) 0x2C ≡ false → unblocks k h ≡ false
+  pub unblocks-no : eqb (h .ins) 0x2C ≡ false → unblocks k h ≡ false
   unfolding unblocks
   unblocks-no n = rw n
 
@@ -289,12 +289,12 @@ module _ (k : ℕ) (h3 : k < 3) (c : Card) (g : goodCodes (c .codes) ≡ true) (
   abbrev S : Step → Type 0
   S o = Sheet k c x (answered w c o)
 
-  -- a command that changes nothing but the codes, and the card after it
+  -- a command that changes nothing but the codes and the unblocking counts, whatever these are then, and the card after it
   abbrev T : CodeStep → Type 0
-  T o = S (inCodes (dropBoth (c .session)) o)
+  T o = (counts : List ℕ) → S (inCodes counts (dropBoth (c .session)) o)
 
-  abbrev C : List Code → Card
-  C codes = record { codes = codes; profile = c .profile; session = dropBoth (c .session) }
+  abbrev C : List Code → List ℕ → Card
+  C codes counts = record { codes = codes; counts = counts; profile = c .profile; session = dropBoth (c .session) }
 
   data-sent : dataSent x ≡ d
   unfolding sentBy formSends readOff
@@ -305,9 +305,9 @@ module _ (k : ℕ) (h3 : k < 3) (c : Card) (g : goodCodes (c .codes) ≡ true) (
   shown stored = rw p
 
   -- the tests of an exchange that a status word ended, by the header
-  by-header : (codes : List Code) (sw : ℕ) (st : ℕ → Bool) (t : Header → Bool)
-      → (st (statusWord (E k c x w (C codes) sw)) && isCommand t x) ≡ (st sw && t h)
-  by-header codes sw st t = rw (told k c x w (C codes) sw, asked b auth sig w p t)
+  by-header : (codes : List Code) (counts : List ℕ) (sw : ℕ) (st : ℕ → Bool) (t : Header → Bool)
+      → (st (statusWord (E k c x w (C codes counts) sw)) && isCommand t x) ≡ (st sw && t h)
+  by-header codes counts sw st t = rw (told k c x w (C codes counts) sw, asked b auth sig w p t)
 
   -- 9000
   accepted : (codes : List Code)
@@ -320,11 +320,11 @@ module _ (k : ℕ) (h3 : k < 3) (c : Card) (g : goodCodes (c .codes) ≡ true) (
       → (byVerifiedPuk h ≡ true → codeOf cs PUK .verified ≡ true)
       → T (codeStatus codes 0x9000)
   unfolding written returnedKind resetDone opens closes
-  accepted codes m t v some none right puk =
-      let ok : (t : Header → Bool) → (okStatus (statusWord (E k c x w (C codes) 0x9000)) && isCommand t x) ≡ t h =
-      λ t. unfold okStatus in by-header codes 0x9000 okStatus t in
-      let wr : (wrongStatus (statusWord (E k c x w (C codes) 0x9000)) && isCommand (presents k) x) ≡ false =
-      unfold wrongStatus in by-header codes 0x9000 wrongStatus (presents k) in
+  accepted codes m t v some none right puk counts =
+      let ok : (t : Header → Bool) → (okStatus (statusWord (E k c x w (C codes counts) 0x9000)) && isCommand t x) ≡ t h =
+      λ t. unfold okStatus in by-header codes counts 0x9000 okStatus t in
+      let wr : (wrongStatus (statusWord (E k c x w (C codes counts) 0x9000)) && isCommand (presents k) x) ≡ false =
+      unfold wrongStatus in by-header codes counts 0x9000 wrongStatus (presents k) in
       record {
         verified = simp (ok (verifies k), ok (changes k), ok (unblocks k), ok anyUnblocks, wr, or-false, and-false) m;
         tries = simp (ok (presents k), ok (unblocks k), wr) t;
@@ -363,18 +363,18 @@ module _ (k : ℕ) (h3 : k < 3) (c : Card) (g : goodCodes (c .codes) ≡ true) (
       → (presents k h ≡ true → same (presentedBy (value (codeOf cs k)) h d) (value (codeOf cs k)) ≡ false)
       → T (codeStatus codes (0x63C0 + t))
   unfolding written returnedKind resetDone opens closes
-  mistaken codes t l m s v left some wrong-value =
-      let wr : (wrongStatus (statusWord (E k c x w (C codes) (0x63C0 + t))) && isCommand (presents k) x) ≡ presents k h =
-      by-header codes (0x63C0 + t) wrongStatus (presents k) ∙ ap (λ (q : Bool). q && presents k h) (wrong-status t l) in
-      let ok : (t′ : Header → Bool) → (okStatus (statusWord (E k c x w (C codes) (0x63C0 + t))) && isCommand t′ x) ≡ false =
-      λ t′. by-header codes (0x63C0 + t) okStatus t′ ∙ ap (λ (q : Bool). q && t′ h) (wrong-not-ok t l) in
+  mistaken codes t l m s v left some wrong-value counts =
+      let wr : (wrongStatus (statusWord (E k c x w (C codes counts) (0x63C0 + t))) && isCommand (presents k) x) ≡ presents k h =
+      by-header codes counts (0x63C0 + t) wrongStatus (presents k) ∙ ap (λ (q : Bool). q && presents k h) (wrong-status t l) in
+      let ok : (t′ : Header → Bool) → (okStatus (statusWord (E k c x w (C codes counts) (0x63C0 + t))) && isCommand t′ x) ≡ false =
+      λ t′. by-header codes counts (0x63C0 + t) okStatus t′ ∙ ap (λ (q : Bool). q && t′ h) (wrong-not-ok t l) in
       record {
         verified = simp (ok (verifies k), ok (changes k), ok (unblocks k), ok anyUnblocks, wr, or-false, and-false) m;
         tries = simp (ok (presents k), ok (unblocks k), wr) s;
         stored = simp (ok (changes k), ok (storesPin k)) v;
         rightly = never (ok (presents k));
         wrongly = λ e. ap (λ (d : Bytes). same d (value (codeOf cs k))) (shown (value (codeOf cs k))) ∙ wrong-value (sym wr ∙ e);
-        wrong = λ e. told k c x w (C codes) (0x63C0 + t) ∙ ap (λ (n : ℕ). 0x63C0 + n) (left (sym wr ∙ e));
+        wrong = λ e. told k c x w (C codes counts) (0x63C0 + t) ∙ ap (λ (n : ℕ). 0x63C0 + n) (left (sym wr ∙ e));
         hadTries = λ e. some (sym wr ∙ e);
         restored = never (ok (presents k));
         unblocked = never (ok (unblocks k));
@@ -392,8 +392,11 @@ module _ (k : ℕ) (h3 : k < 3) (c : Card) (g : goodCodes (c .codes) ≡ true) (
   other-code codes j v q s n = code-other codes j v (omega (arith, code-place cs g j q)) k n
 
   -- a status word that refuses: the codes as they were
-  turned-down : (sw : ℕ) → okStatus sw ≡ false → wrongStatus sw ≡ false → S (refusal c sw)
-  turned-down sw n m = refused-sheet k c x w (C cs) sw refl n m
+  turned-down : (sw : ℕ) → okStatus sw ≡ false → wrongStatus sw ≡ false → T (codeStatus cs sw)
+  turned-down sw n m counts = refused-sheet k c x w (C cs counts) sw refl n m
+
+  refused-header : (sw : ℕ) → okStatus sw ≡ false → wrongStatus sw ≡ false → S (refusal c sw)
+  refused-header sw n m = turned-down sw n m (c .counts)
 
   -- A value judged wrong for code j, which is the code that the header presents a value for.
   wrong-sheet : (j : ℕ) → j < 3 → presents j h ≡ true → ((i : ℕ) → i ≢ j → presents i h ≡ false)
@@ -628,12 +631,12 @@ module _ (k : ℕ) (h3 : k < 3) (c : Card) (g : goodCodes (c .codes) ≡ true) (
         (λ some right a. unblocked-sheet (rw q) blocked (never (rw (i, q))) v 3
         (take-filled 12 new (allowed-most j new a) ∙ rw (q, size)) (rw q) (λ _. some) (λ _. rw (i, size) right))
 
-    resetRetry-sheet : (eqb (h .p1) 0x00 || eqb (h .p1) 0x03) ≡ true → T (resetRetry cs h d)
+    resetRetry-sheet : (eqb (h .p1) 0x00 || eqb (h .p1) 0x03) ≡ true → T (resetRetry cs (c .counts) h d)
     unfolding okStatus wrongStatus
     resetRetry-sheet q =
-        resetRetry-walk T cs h d (turned-down swHasTries refl refl)
-        (λ blocked t. verified-puk-sheet t blocked)
-        (λ blocked f. presented-puk-sheet (eqb-true (h .p1) 0x00 (sym (or-false _) ∙ rw f at q)) blocked)
+        resetRetry-walk T cs (c .counts) h d (turned-down swHasTries refl refl) (turned-down 0x6983 refl refl)
+        (λ blocked _ t. verified-puk-sheet t blocked)
+        (λ blocked _ f. presented-puk-sheet (eqb-true (h .p1) 0x00 (sym (or-false _) ∙ rw f at q)) blocked)
 
   -- a job handed out: only a signature moves a code, and only PIN2
   handed : (c′ : Card) (kind key : ℕ) (block : Bytes)
@@ -649,9 +652,9 @@ module _ (k : ℕ) (h3 : k < 3) (c : Card) (g : goodCodes (c .codes) ≡ true) (
 
   -- what a command of another instruction answers
   session-sheet : eqb (h .ins) 0x20 ≡ false → eqb (h .ins) 0x24 ≡ false → eqb (h .ins) 0x2C ≡ false
-      → (o : SessionStep) → Permitted cs o → S (inSession cs o)
+      → (o : SessionStep) → Permitted cs o → S (inSession cs (c .counts) o)
   session-sheet v n u o none =
-      let c′ : Card = cardAfter c (inSession cs o) in
+      let c′ : Card = cardAfter c (inSession cs (c .counts) o) in
       other-call k c x w c′ (o .answer) refl
       (asked b auth sig w p (verifies k) ∙ verifies-no k h v)
       (asked b auth sig w p (changes k) ∙ changes-no k h n)
@@ -664,10 +667,10 @@ module _ (k : ℕ) (h3 : k < 3) (c : Card) (g : goodCodes (c .codes) ≡ true) (
       (λ e. none .verified (simp (kind-written w c′ (o .answer), and-true) at e))
 
   -- 2A 9E 9A SIGN
-  sign-sheet : h .ins ≡ 0x2A → S (sign cs (c .profile .references) (dropBoth (c .session)) h d)
+  sign-sheet : h .ins ≡ 0x2A → S (sign cs (c .counts) (c .profile .references) (dropBoth (c .session)) h d)
   sign-sheet i =
       let v : Code = marked (codeOf cs PIN2) (codeOf cs PIN2 .tries) false in
-      sign-walk S cs (c .profile .references) (dropBoth (c .session)) h d
+      sign-walk S cs (c .counts) (c .profile .references) (dropBoth (c .session)) h d
       (λ sw _. session-sheet (rw i) (rw i) (rw i) _ response-permitted)
       (λ _ given. either _ k PIN2
       (λ e.
@@ -684,31 +687,23 @@ module _ (k : ℕ) (h3 : k < 3) (c : Card) (g : goodCodes (c .codes) ≡ true) (
   own-sheet ReadRecord i q l = session-sheet (rw i) (rw i) (rw i) _ (readRecord-permitted cs (c .profile) _ h)
   own-sheet ReadBinary i q l = session-sheet (rw i) (rw i) (rw i) _ (readBinary-permitted cs _ h auth sig)
   own-sheet GetResponse i q l = session-sheet (rw i) (rw i) (rw i) _ (getResponse-permitted cs _ h)
-  own-sheet Verify i q l = verify-sheet i (verify-code h q)
-  own-sheet Change i q l = change-sheet i (change-code h q)
+  own-sheet Verify i q l = verify-sheet i (verify-code h q) (c .counts)
+  own-sheet Change i q l = change-sheet i (change-code h q) (c .counts)
   own-sheet ResetRetry i q l =
       resetRetry-sheet i (reset-code h q .0) (reset-code h q .1)
-      (and-left (eqb (h .p1) 0x00 || eqb (h .p1) 0x03) (leb 1 (h .p2) && leb (h .p2) 2) q)
+      (and-left (eqb (h .p1) 0x00 || eqb (h .p1) 0x03) (leb 1 (h .p2) && leb (h .p2) 2) q) _
   own-sheet SetEnvironment i q l = session-sheet (rw i) (rw i) (rw i) _ (setEnvironment-permitted cs _ h)
   own-sheet ChooseKey i q l = session-sheet (rw i) (rw i) (rw i) _ (chooseKey-permitted cs (c .profile .keys) _ h d)
   own-sheet InternalAuthenticate i q l = session-sheet (rw i) (rw i) (rw i) _ (authenticate-permitted cs (c .profile .references) _ h d)
   own-sheet ComputeSignature i q l = sign-sheet i
   own-sheet Decipher i q l = session-sheet (rw i) (rw i) (rw i) _ (decipher-permitted cs (c .profile .references) _ h d)
 
-  named-sheet : {n : Naming} → Found h n → S (judgeNamed n c h d auth sig)
-  unfolding judgeNamed okStatus wrongStatus
-  named-sheet nothing = turned-down 0x6A86 refl refl
-  named-sheet (is o fits) =
-      split S (not (lengths o h)) (λ _. turned-down 0x6700 refl refl) (λ l. own-sheet o (fits .ins) (fits .parameters) (not-false _ l))
-
   -- steps 2 to 7
   header-sheet : S (judgeHeader c h d auth sig)
-  unfolding judgeHeader okStatus wrongStatus
+  unfolding okStatus wrongStatus
   header-sheet =
-      split S (not (knownClass h)) (λ _. turned-down 0x6E00 refl refl)
-      (λ _. split S (not (knownInstruction h)) (λ _. turned-down 0x6D00 refl refl)
-      (λ _. split S (badChaining h) (λ _. turned-down 0x6884 refl refl)
-      (λ _. named-sheet (found h commands))))
+      header-walk S c h d auth sig (refused-header 0x6E00 refl refl) (refused-header 0x6D00 refl refl) (refused-header 0x6884 refl refl)
+      (refused-header 0x6A86 refl refl) (refused-header 0x6700 refl refl) (λ _ o fits l. own-sheet o (fits .ins) (fits .parameters) l)
 
 -- A command.
 module _ (k : ℕ) (h3 : k < 3) (c : Card) (b auth sig w : Bytes) where
@@ -733,7 +728,7 @@ delivery-sheet k c r w =
     let x : Call = Delivery r w in
     let o : SessionStep = deliver (c .session) r in
     delivery-walk (Sheet k c x) c r w (edge-refusal k c x w)
-    (λ _ _. other-call k c x w (cardAfter c (inSession (c .codes) o)) (o .answer) refl refl refl refl refl refl refl refl
+    (λ _ _. other-call k c x w (cardAfter c (inSession (c .codes) (c .counts) o)) (o .answer) refl refl refl refl refl refl refl refl
     (simp and-false) (never (simp and-false)))
 
 -- A power reset closes each code and changes nothing else of it.
@@ -780,7 +775,3 @@ unfolding step
 code-after k h3 c (Command b auth sig w) = command-sheet k h3 c b auth sig w
 code-after k h3 c (Delivery r w) = delivery-sheet k c r w
 code-after k h3 c PowerReset = reset-sheet k h3 c
-
--- The sheet.
-pub code-sheet : CodeSheet
-code-sheet = record { after = code-after; asked = asked-about }

@@ -43,13 +43,13 @@ unblocked-off codes pin pinCode t _ _ =
     (off-kept first PUK pin u refl (off-there codes pin v refl), off-there first PUK u refl)
 
 -- Its own rules.
-pub reset-closes : (codes : List Code) (h : Header) (d : Bytes) → LeavesClosed codes (h .p2) (resetRetry codes h d)
+pub reset-closes : (codes : List Code) (counts : List ℕ) (h : Header) (d : Bytes) → LeavesClosed codes (h .p2) (resetRetry codes counts h d)
 unfolding unblockByPresentedPuk judged
-reset-closes codes h d =
+reset-closes codes counts h d =
     let P = LeavesClosed codes (h .p2) in
-    resetRetry-walk P codes h d (λ _ e. absurd (omega arith))
-    (λ _ _. verifiedPuk-walk P codes (h .p2) (λ _ e. absurd (omega arith)) (λ _. unblocked-off codes (h .p2) _ _))
-    (λ _ _. replaced-walk P codes PUK (h .p2) _ _ _ (λ _ _ e. absurd (omega arith))
+    resetRetry-walk P codes counts h d (λ _ e. absurd (omega arith)) (λ _ e. absurd (omega arith))
+    (λ _ _ _. verifiedPuk-walk P codes (h .p2) (λ _ e. absurd (omega arith)) (λ _. unblocked-off codes (h .p2) _ _))
+    (λ _ _ _. replaced-walk P codes PUK (h .p2) _ _ _ (λ _ _ e. absurd (omega arith))
     (λ _ _ g e. absurd (omega (arith, code-tries PUK (codeOf codes PUK) (good-code codes g PUK (omega arith)))))
     (λ _ e. absurd (omega arith))
     (λ _ _ _. unblocked-off codes (h .p2) _ _))

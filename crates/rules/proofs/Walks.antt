@@ -21,7 +21,7 @@ use Rattle.rules.specs.declared.Session.{Session}
 use Rattle.rules.specs.declared.Verdict.{Verdict}
 use Rattle.rules.specs.declared.Verdict.the-variants.{Right, Wrong, NoTries}
 use Rattle.rules.specs.Numbers.{kindNumber}
-use Rattle.rules.specs.Codes.{PUK, PIN1, PIN2, allowed, value, codeOf, closed}
+use Rattle.rules.specs.Codes.{PUK, PIN1, PIN2, allowed, value, codeOf, closed, countOf}
 use Rattle.rules.specs.Keys.{ofClass, present}
 use Rattle.rules.specs.Session.{root, esteidDirectory, noFile, heldBytes, chainBytes, withSelection}
 use Rattle.rules.specs.Session.{withEnvironment, withHeld, withChain, withJob, allActive, noJob, dropHeld}
@@ -180,13 +180,13 @@ module _ (P : SessionStep → Type 0) (s : Session) where
       (λ _. message whole (strip result)))))
 
 -- 2A 9E 9A SIGN.
-pub sign-walk : (P : Step → Type 0) (codes : List Code) (references : Bytes) (s : Session) (h : Header) (d : Bytes)
-    → ((sw : ℕ) → refusing sw ≡ true → P (status codes s sw))
+pub sign-walk : (P : Step → Type 0) (codes : List Code) (counts : List ℕ) (references : Bytes) (s : Session) (h : Header) (d : Bytes)
+    → ((sw : ℕ) → refusing sw ≡ true → P (status codes counts s sw))
     → (isDigest d ≡ true → codeOf codes PIN2 .verified ≡ true
-    → P (inSession (closed codes PIN2) (handOut s (kindNumber Sign) (jobKey references s (kindNumber Sign)) (h .le) (padded d))))
-    → P (sign codes references s h d)
+    → P (inSession (closed codes PIN2) counts (handOut s (kindNumber Sign) (jobKey references s (kindNumber Sign)) (h .le) (padded d))))
+    → P (sign codes counts references s h d)
 unfolding sign
-sign-walk P codes references s h d none handed =
+sign-walk P codes counts references s h d none handed =
     split P (not (isDigest d)) (λ _. none 0x6A80 refl)
     (λ digest. split P (not (eqb (s .environment .number) 1)) (λ _. none 0x6985 refl)
     (λ _. split P (not (codeOf codes PIN2 .verified)) (λ _. none swWithoutPin refl)
@@ -246,16 +246,19 @@ pub verifiedPuk-walk : (P : CodeStep → Type 0) (codes : List Code) (pin : ℕ)
 unfolding unblockByVerifiedPuk
 verifiedPuk-walk P codes pin none done = split P (not (codeOf codes PUK .verified)) (λ _. none) (λ e. done (not-false _ e))
 
-pub resetRetry-walk : (P : CodeStep → Type 0) (codes : List Code) (h : Header) (d : Bytes)
+pub resetRetry-walk : (P : CodeStep → Type 0) (codes : List Code) (counts : List ℕ) (h : Header) (d : Bytes)
     → P (codeStatus codes swHasTries)
-    → (codeOf codes (h .p2) .tries ≡ 0 → h .p1 ≡ 0x03 → P (unblockByVerifiedPuk codes (h .p2)))
-    → (codeOf codes (h .p2) .tries ≡ 0 → eqb (h .p1) 0x03 ≡ false → P (unblockByPresentedPuk codes (h .p2) d))
-    → P (resetRetry codes h d)
+    → P (codeStatus codes 0x6983)
+    → (codeOf codes (h .p2) .tries ≡ 0 → 1 ≤ countOf counts (h .p2) → h .p1 ≡ 0x03 → P (unblockByVerifiedPuk codes (h .p2)))
+    → (codeOf codes (h .p2) .tries ≡ 0 → 1 ≤ countOf counts (h .p2) → eqb (h .p1) 0x03 ≡ false → P (unblockByPresentedPuk codes (h .p2) d))
+    → P (resetRetry codes counts h d)
 unfolding resetRetry
-resetRetry-walk P codes h d none verified presented =
+resetRetry-walk P codes counts h d none used verified presented =
     split P (not (eqb (codeOf codes (h .p2) .tries) 0)) (λ _. none)
     (λ z. let blocked : codeOf codes (h .p2) .tries ≡ 0 = eqb-true _ _ (not-false _ z) in
-    split P (eqb (h .p1) 0x03) (λ e. verified blocked (eqb-true _ _ e)) (presented blocked))
+    split P (eqb (countOf counts (h .p2)) 0) (λ _. used)
+    (λ n. let some : 1 ≤ countOf counts (h .p2) = omega (arith, eqb-false (countOf counts (h .p2)) 0 n) in
+    split P (eqb (h .p1) 0x03) (λ e. verified blocked some (eqb-true _ _ e)) (presented blocked some)))
 
 -- The edge of a command, and of a delivery.
 pub command-walk : (P : Result → Type 0) (c : Card) (apdu authentication signature buffer : Bytes)
@@ -271,7 +274,7 @@ command-walk P c apdu authentication signature buffer refused done =
 
 pub delivery-walk : (P : Result → Type 0) (c : Card) (result buffer : Bytes)
     → ((n : ℕ) → P (refuse c buffer n))
-    → (good c ≡ true → shortBuffer buffer ≡ false → P (answered buffer c (inSession (c .codes) (deliver (c .session) result))))
+    → (good c ≡ true → shortBuffer buffer ≡ false → P (answered buffer c (inSession (c .codes) (c .counts) (deliver (c .session) result))))
     → P (delivery c result buffer)
 unfolding delivery
 delivery-walk P c result buffer refused done =

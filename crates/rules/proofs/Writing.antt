@@ -2,30 +2,32 @@
 use mathlib.Core.Path.{_≡_, refl, ap, subst}
 use mathlib.Core.Bool.{Bool, true, false, _&&_, _||_, false≢true}
 use mathlib.Core.List.{List, [], _∷_, _++_, append-assoc, append-nil}
-use Prim.Native.Nat.{ℕ, _≤_, _<_}
+use Prim.Native.Nat.{ℕ, _+_, _≤_, _<_}
 use native.Mathlib.Omega.{arith}
 use lib.Dec.{eqb, leb}
-use lib.ListN.{length, take, drop}
-use borrow.Author.Tests.{eqb-true, le-leb, lt-ltb, le-ltb}
+use lib.ListN.{length, take, drop, length-append}
+use borrow.Author.Tests.{eqb-true, ne-eqb, le-leb, lt-leb, lt-ltb, le-ltb}
 use Rattle.octets.specs.Octets.{Bytes, all, digit, goodRoom}
-use Rattle.octets.proofs.Tests.{and-left, and-right, or-cases}
+use Rattle.octets.proofs.Tests.{by-test, and-left, and-right, or-cases}
 use Rattle.rules.specs.declared.Card.{Card}
 use Rattle.rules.specs.declared.Code.{Code}
 use Rattle.rules.specs.declared.Record.{Record}
 use Rattle.rules.specs.declared.Profile.{Profile}
 use Rattle.rules.specs.declared.JobKind.the-variants.{Authenticate, Sign}
 use Rattle.rules.specs.Numbers.{unwritten, wrote}
-use Rattle.rules.specs.Codes.{PUK, PIN1, PIN2, least, most, value, marked, codeOf, closed}
+use Rattle.rules.specs.Codes.{PUK, PIN1, PIN2, least, most, value, marked, codeOf, closed, noLimit, noLimits, unlimited}
 use Rattle.rules.specs.Keys.{signatureKey, authenticationKey, ofClass, present, usable, activeKey}
-use Rattle.rules.specs.State.{goodCode, goodCodes, goodReferences, goodRecord, goodRecords, goodProfile, good}
+use Rattle.rules.specs.State.{goodCode, goodCodes, goodCounts, goodReferences, goodRecord, goodRecords, goodProfile, good}
 use Rattle.rules.specs.Edge.{powerReset}
 use Rattle.rules.specs.Image.{got, continued, pure, byteIf, bytesIf, readCode, codeSection, readKey, readKeys, keySection}
-use Rattle.rules.specs.Image.{referenceSection, readPersonal, readRecords, personalSection, end, readCard, loaded, load}
+use Rattle.rules.specs.Image.{referenceSection, readPersonal, readRecords, personalSection, countSection, readCounts, end, cardOf}
+use Rattle.rules.specs.Image.{readCard, loaded, load}
 use Rattle.rules.specs.Writer.{codeImage, codesImage, keysAmong, keysImage, keyBytes, referencesImage, recordImage}
-use Rattle.rules.specs.Writer.{recordsImage, personalImage, imageOf, write}
+use Rattle.rules.specs.Writer.{recordsImage, personalImage, countsImage, imageOf, write}
+use Rattle.rules.specs.ImageLaws.{LastSection}
 use Rattle.rules.proofs.Parts.{room-len, room-taken, room-filled, code-room, code-least, code-most, code-digits, code-tries, code-length}
 use Rattle.rules.proofs.Parts.{three-codes, good-code, four-keys, good-references, sixteen-records, good-records}
-use Rattle.rules.proofs.Parts.{records-first, good-codes, good-profile}
+use Rattle.rules.proofs.Parts.{records-first, good-codes, good-counts, good-profile, good-session, good-card, two-counts, good-count}
 use Rattle.rules.proofs.Sessions.{references-length, active-usable}
 use Rattle.rules.proofs.Loading.{Fresh, fresh}
 
@@ -180,9 +182,42 @@ unfolding personalSection personalImage byteIf
 personals-read rs rest n g =
     subst (λ (m : ℕ). goodRecords m rs ≡ true → readRecords m (recordsImage rs ++ rest) ≡ got rs rest) n (records-read rs rest) g
 
--- A good card's image, read as that card after a power reset, and what stands behind it as the end.
-image-read : (c : Card) (rest : Bytes) → good c ≡ true → readCard (imageOf c ++ rest) ≡ continued (end rest) (λ _. pure (powerReset c .1))
-unfolding readCard imageOf powerReset
+-- Good counts of which one is not A5h, read back; good counts at the end of an image.
+counts-read : (counts : List ℕ) (rest : Bytes) → goodCounts counts ≡ true → unlimited counts ≡ false
+    → readCounts (countsImage counts ++ rest) ≡ got counts rest
+unfolding readCounts countSection countsImage
+counts-read [] rest g u = absurd (omega (arith, two-counts [] g))
+counts-read (a ∷ []) rest g u = absurd (omega (arith, two-counts (a ∷ []) g))
+counts-read (a ∷ b ∷ []) rest g u =
+    let each = good-count (a ∷ b ∷ []) g in
+    rw (
+      u,
+      byte-read _ 22 2 (a ∷ b ∷ rest) refl,
+      byte-read _ 28 a (b ∷ rest) (le-leb a noLimit (each 1 (omega arith) (omega arith))),
+      byte-read _ 28 b rest (le-leb b noLimit (each 2 (omega arith) (omega arith))),
+      u,
+    )
+counts-read (a ∷ b ∷ c ∷ l) rest g u = absurd (omega (arith, two-counts (a ∷ b ∷ c ∷ l) g))
+
+unlimited-counts : (counts : List ℕ) → goodCounts counts ≡ true → unlimited counts ≡ true → counts ≡ noLimits
+unlimited-counts [] g u = absurd (omega (arith, two-counts [] g))
+unlimited-counts (a ∷ []) g u = absurd (omega (arith, two-counts (a ∷ []) g))
+unlimited-counts (a ∷ b ∷ []) g u =
+    rw (eqb-true a noLimit (and-left _ (eqb b noLimit) u), eqb-true b noLimit (and-right (eqb a noLimit) _ u))
+unlimited-counts (a ∷ b ∷ c ∷ l) g u = absurd (omega (arith, two-counts (a ∷ b ∷ c ∷ l) g))
+
+counts-ended : (counts : List ℕ) → goodCounts counts ≡ true → readCounts (countsImage counts ++ []) ≡ got counts []
+unfolding readCounts countsImage
+counts-ended counts g =
+    by-test _ (unlimited counts)
+    (λ u. rw (u, unlimited-counts counts g u))
+    (counts-read counts [] g)
+
+-- A good card's image, read as that card after a power reset, but for its unblocking counts and what stands behind it.
+image-read : (c : Card) (rest : Bytes) → good c ≡ true → readCard (imageOf c ++ rest)
+    ≡ continued (readCounts (countsImage (c .counts) ++ rest)) (λ counts b. continued (end b) (λ _. pure (cardOf
+    (closed (closed (closed (c .codes) PUK) PIN1) PIN2) (c .profile .keys) (c .profile .references) (c .profile .personal) counts)))
+unfolding readCard imageOf
 image-read c rest g =
     let p : Profile = c .profile in
     let isGood : goodProfile p ≡ true = good-profile c g in
@@ -191,23 +226,36 @@ image-read c rest g =
       append-assoc (codesImage (c .codes)),
       append-assoc (keysImage (p .keys)),
       append-assoc (referencesImage (p .references)),
+      append-assoc (personalImage (p .personal)),
       codes-read (c .codes) _ (good-codes c g),
       keys-read (p .keys) (p .references) _ (four-keys p isGood) references,
       references-read (p .keys) (p .references) _ references,
-      personals-read (p .personal) rest (sixteen-records p isGood) (good-records p isGood),
-      g,
+      personals-read (p .personal) _ (sixteen-records p isGood) (good-records p isGood),
     )
 
 pub image-loads : (c : Card) → good c ≡ true → load (imageOf c) ≡ (0, powerReset c .1)
-unfolding load loaded end
-image-loads c g = rw (← append-nil (imageOf c), image-read c [] g)
+unfolding load loaded end powerReset
+image-loads c g = rw (← append-nil (imageOf c), image-read c [] g, counts-ended (c .counts) (good-counts c g), g)
 
-pub image-followed : (c : Card) → good c ≡ true → (x : ℕ) (rest : Bytes) → load (imageOf c ++ x ∷ rest) .0 ≡ 27
+-- A byte behind an image with a section of unblocking counts; bytes behind one without.
+pub image-followed : (c : Card) → good c ≡ true → unlimited (c .counts) ≡ false → (x : ℕ) (rest : Bytes) → load (imageOf c ++ x ∷ rest) .0 ≡ 27
 unfolding load loaded end
-image-followed c g x rest = rw (image-read c (x ∷ rest) g)
+image-followed c g u x rest = rw (image-read c (x ∷ rest) g, counts-read (c .counts) (x ∷ rest) (good-counts c g) u)
+
+pub last-section : (c : Card) → good c ≡ true → unlimited (c .counts) ≡ true → LastSection c
+unfolding load loaded readCounts countSection countsImage byteIf end powerReset
+last-section c g u = record {
+  count = λ x rest n. rw (image-read c (x ∷ rest) g, u, ne-eqb x 2 n);
+  missing = rw (image-read c (2 ∷ []) g, u);
+  missingSecond = λ a h. rw (image-read c (2 ∷ a ∷ []) g, u, le-leb a noLimit h);
+  over = λ a rest h. rw (image-read c (2 ∷ a ∷ rest) g, u, lt-leb a noLimit h);
+  overSecond = λ a b rest h k. rw (image-read c (2 ∷ a ∷ b ∷ rest) g, u, le-leb a noLimit h, lt-leb b noLimit k);
+  twice = λ rest. rw (image-read c (2 ∷ noLimit ∷ noLimit ∷ rest) g, u);
+  loads = λ a b h k other. rw (image-read c (2 ∷ a ∷ b ∷ []) g, u, le-leb a noLimit h, le-leb b noLimit k, other, g);
+}
 
 -- So it has the length of an image that loads.
-image-sizes : (c : Card) → good c ≡ true → (84 ≤ length (imageOf c)) × (length (imageOf c) ≤ 1115)
+image-sizes : (c : Card) → good c ≡ true → (84 ≤ length (imageOf c)) × (length (imageOf c) ≤ 1118)
 image-sizes c g =
     let known : Fresh (imageOf c) (load (imageOf c) .1) = fresh (imageOf c) (ap (λ (r : ℕ × Card). r .0) (image-loads c g)) in
     (known .atLeast, known .atMost)
@@ -215,8 +263,26 @@ image-sizes c g =
 pub image-least : (c : Card) → good c ≡ true → 84 ≤ length (imageOf c)
 image-least c g = image-sizes c g .0
 
-pub image-most : (c : Card) → good c ≡ true → length (imageOf c) ≤ 1115
+pub image-most : (c : Card) → good c ≡ true → length (imageOf c) ≤ 1118
 image-most c g = image-sizes c g .1
+
+-- The section of unblocking counts has three bytes more than none.
+image-parts : (c : Card) → length (imageOf c)
+    ≡ length (codesImage (c .codes)) + (length (keysImage (c .profile .keys)) + (length (referencesImage (c .profile .references))
+    + (length (personalImage (c .profile .personal)) + length (countsImage (c .counts)))))
+unfolding imageOf
+image-parts c = simp length-append
+
+without-limits : Card → Card
+without-limits c = record { codes = c .codes; counts = noLimits; profile = c .profile; session = c .session }
+
+pub image-limited : (c : Card) → good c ≡ true → unlimited (c .counts) ≡ false → 87 ≤ length (imageOf c)
+unfolding without-limits countsImage goodCounts
+image-limited c g u =
+    let free : Card = without-limits c in
+    let isGood : good free ≡ true = good-card free (good-codes c g) refl (good-profile c g) (good-session c g) in
+    let three : length (countsImage (c .counts)) ≡ 3 = rw u in
+    omega (arith, image-parts c, image-parts free, image-least free isGood, three)
 
 -- What the call gives: on a bad state, with a short buffer, else.
 module _ (c : Card) (buffer : Bytes) where
@@ -224,11 +290,11 @@ module _ (c : Card) (buffer : Bytes) where
   unfolding write
   write-bad g = rw g
 
-  pub write-short : good c ≡ true → length buffer < 1115 → write c buffer ≡ (unwritten 2, buffer)
+  pub write-short : good c ≡ true → length buffer < 1118 → write c buffer ≡ (unwritten 2, buffer)
   unfolding write
-  write-short g h = rw (g, lt-ltb (length buffer) 1115 h)
+  write-short g h = rw (g, lt-ltb (length buffer) 1118 h)
 
-  pub write-whole : good c ≡ true → 1115 ≤ length buffer
+  pub write-whole : good c ≡ true → 1118 ≤ length buffer
       → write c buffer ≡ (wrote (length (imageOf c)), imageOf c ++ drop (length (imageOf c)) buffer)
   unfolding write
-  write-whole g h = rw (g, le-ltb (length buffer) 1115 h)
+  write-whole g h = rw (g, le-ltb (length buffer) 1118 h)

@@ -17,9 +17,10 @@ pub data Answer : Type 0 where
   response : Bytes → ℕ → Answer
   job : ℕ → ℕ → Bytes → Answer
 
--- The codes and the session after a command, and its answer. No command changes the rest of the card.
+-- The codes, the unblocking counts and the session after a command, and its answer. No command changes the rest of the card.
 pub record Step : Type 0 where
   pub codes : List Code
+  pub counts : List ℕ
   pub session : Session
   pub answer : Answer
 
@@ -28,13 +29,13 @@ pub record SessionStep : Type 0 where
   pub session : Session
   pub answer : Answer
 
--- A command that changes nothing but the session; one that changes nothing but the codes and answers by a status word alone
--- (`CodeStep`).
-abbrev pub inSession : List Code → SessionStep → Step
-inSession codes o = record { codes = codes; session = o .session; answer = o .answer }
+-- A command that changes nothing but the session; one that changes nothing but the codes and the counts and answers by a status word alone
+-- (`CodeStep` has the codes and the word).
+abbrev pub inSession : List Code → List ℕ → SessionStep → Step
+inSession codes counts o = record { codes = codes; counts = counts; session = o .session; answer = o .answer }
 
-abbrev pub inCodes : Session → CodeStep → Step
-inCodes s o = record { codes = o .codes; session = s; answer = response [] (o .sw) }
+abbrev pub inCodes : List ℕ → Session → CodeStep → Step
+inCodes counts s o = record { codes = o .codes; counts = counts; session = s; answer = response [] (o .sw) }
 
 -- A status word alone.
 abbrev pub codeStatus : List Code → ℕ → CodeStep
@@ -43,8 +44,8 @@ codeStatus codes sw = record { codes = codes; sw = sw }
 abbrev pub sessionStatus : Session → ℕ → SessionStep
 sessionStatus s sw = record { session = s; answer = response [] sw }
 
-abbrev pub status : List Code → Session → ℕ → Step
-status codes s sw = inSession codes (sessionStatus s sw)
+abbrev pub status : List Code → List ℕ → Session → ℕ → Step
+status codes counts s sw = inSession codes counts (sessionStatus s sw)
 
 -- 61 and n, 256 as 00.
 unfoldable pub moreBytes : ℕ → ℕ

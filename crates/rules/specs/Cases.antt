@@ -9,9 +9,10 @@ use Rattle.octets.specs.Octets.{Bytes, same}
 use Rattle.pkcs1.specs.Pkcs1.{pad}
 use Rattle.rules.specs.declared.Card.{Card}
 use Rattle.rules.specs.Numbers.{Returned, edge, responded, handedOut, wasReset, Wrote, unwritten, wrote}
-use Rattle.rules.specs.Codes.{PUK, PIN1, PIN2, codeOf}
+use Rattle.rules.specs.Codes.{PUK, PIN1, PIN2, codeOf, noLimit}
 use Rattle.rules.specs.Digests.{sha1Prefix}
-use Rattle.rules.specs.Counting.{Call, Command, Delivery, PowerReset, trace, after, returnedStatus}
+use Rattle.rules.specs.Counting.{Call, Command, Delivery, PowerReset, trace, after, returnedStatus, countAtLoad}
+use Rattle.rules.specs.Image.{load}
 use Rattle.rules.specs.Writer.{write}
 use Rattle.rules.specs.Sample.{sampleCard, sampleImage, puk, pin1, pin2}
 
@@ -54,11 +55,16 @@ padding n =
     let done = pad (replicate n 0x55) (replicate 256 0x00) in
     pads (done .0) (countFF (drop 2 (done .1))) ∷ []
 
+-- A card with other unblocking counts.
+abbrev pub withCounts : Card → List ℕ → Card
+withCounts c counts = record { codes = c .codes; counts = counts; profile = c .profile; session = c .session }
+
 -- The sample card with no byte in its last record.
 abbrev pub emptyRecord : Card
 emptyRecord =
     record {
       codes = sampleCard .codes;
+      counts = sampleCard .counts;
       profile = record {
         keys = sampleCard .profile .keys;
         references = sampleCard .profile .references;
@@ -341,6 +347,89 @@ cases =
 abbrev pub PCases : Type 0
 PCases = map (λ x. x .seen) cases ≡ map (λ x. x .expected) cases
 
+-- RESET RETRY of PIN1 with P1 00: a PUK, and a new PIN1.
+abbrev pub unblockPin1 : Bytes → Bytes → Call
+unblockPin1 value new = withBody 0x00 0x2C 0x00 PIN1 (value ++ new)
+
+-- A limit on unblocking (02, wish 6).
+unfoldable pub limited : List Case
+limited =
+    -- at 0 a wrong PUK costs no try, the right one does not help, and one that is not verified is not 6982
+    record {
+      seen = onCard (withCounts sampleCard (0 ∷ noLimit ∷ [])) (
+          wrongPin1
+          ∷ wrongPin1
+          ∷ wrongPin1
+          ∷ unblockPin1 (replicate 8 0x39) pin1
+          ∷ unblockPin1 puk pin1
+          ∷ send (0x00 ∷ 0x2C ∷ 0x03 ∷ 0x01 ∷ [])
+          ∷ []
+          );
+      expected =
+          sw 0x63C2
+          ∷ sw 0x63C1
+          ∷ sw 0x63C0
+          ∷ sw 0x6983
+          ∷ sw 0x6983
+          ∷ sw 0x6983
+          ∷ code PUK 3 false ∷ code PIN1 0 false ∷ code PIN2 3 false ∷ [];
+    }
+    -- one unblocking: 63Cx and 6A80 do not use it up, 9000 does, and a power reset does not bring it back
+    ∷ record {
+      seen = onCard (withCounts sampleCard (1 ∷ 0 ∷ [])) (
+          wrongPin1
+          ∷ wrongPin1
+          ∷ wrongPin1
+          ∷ unblockPin1 (replicate 8 0x39) pin1
+          ∷ unblockPin1 puk (0x31 ∷ [])
+          ∷ unblockPin1 puk pin1
+          ∷ PowerReset
+          ∷ wrongPin1
+          ∷ wrongPin1
+          ∷ wrongPin1
+          ∷ unblockPin1 puk pin1
+          ∷ []
+          );
+      expected =
+          sw 0x63C2
+          ∷ sw 0x63C1
+          ∷ sw 0x63C0
+          ∷ sw 0x63C2
+          ∷ sw 0x6A80
+          ∷ sw 0x9000
+          ∷ isReset
+          ∷ sw 0x63C2
+          ∷ sw 0x63C1
+          ∷ sw 0x63C0
+          ∷ sw 0x6983
+          ∷ code PUK 3 false ∷ code PIN1 0 false ∷ code PIN2 3 false ∷ [];
+    }
+    ∷ []
+
+-- The sample image and what stands behind it.
+abbrev pub followed : Bytes → Bytes
+followed d = sampleImage ++ d
+
+pub record LimitShown : Type 0 where
+  pub runs : map (λ x. x .seen) limited ≡ map (λ x. x .expected) limited
+  -- load's numbers for the last section: another count, a missing byte, a byte over A5h, A5h twice, bytes left over; and one that loads
+  pub loads :
+      map (λ d. load (followed d) .0)
+      (
+      (1 ∷ [])
+      ∷ (2 ∷ 0 ∷ [])
+      ∷ (2 ∷ 0xA6 ∷ [])
+      ∷ (2 ∷ 0xA5 ∷ 0xA5 ∷ [])
+      ∷ (2 ∷ 0 ∷ 0xA5 ∷ 0 ∷ [])
+      ∷ (2 ∷ 0 ∷ 0xA5 ∷ [])
+      ∷ []
+      )
+      ≡ 22 ∷ 21 ∷ 28 ∷ 28 ∷ 27 ∷ 0 ∷ []
+  -- the counts at load
+  pub counts :
+      map (countAtLoad (followed (2 ∷ 7 ∷ 9 ∷ []))) (PIN1 ∷ PIN2 ∷ []) ++ map (countAtLoad sampleImage) (PIN1 ∷ PIN2 ∷ [])
+      ≡ 7 ∷ 9 ∷ 0xA5 ∷ 0xA5 ∷ []
+
 -- The writer (02, wish 3) on a card and a buffer of n bytes EE: what it is to return, and the buffer as it is to leave it.
 pub record Writing : Type 0 where
   pub card : Card
@@ -357,18 +446,23 @@ done x = write (x .card) (replicate (x .size) 0xEE)
 unfoldable pub writings : List Writing
 writings =
     -- the sample card; with a try of PIN1 spent, PIN2 open and an answer held
-    on sampleCard 1115 (wrote 84) (sampleImage ++ replicate 1031 0xEE)
+    on sampleCard 1118 (wrote 84) (sampleImage ++ replicate 1034 0xEE)
     ∷ on (after sampleCard (
     wrongPin1
     ∷ verifyOf PIN2 pin2
     ∷ withBody 0x00 0xA4 0x02 0x0C (0x00 ∷ 0x16 ∷ [])
     ∷ send (0x00 ∷ 0xB2 ∷ 0x03 ∷ 0x04 ∷ [])
     ∷ []
-    )) 1116 (wrote 84) (take 16 sampleImage ++ 2 ∷ (drop 17 sampleImage ++ replicate 1032 0xEE))
+    )) 1119 (wrote 84) (take 16 sampleImage ++ 2 ∷ (drop 17 sampleImage ++ replicate 1035 0xEE))
+    -- PIN1 blocked and unblocked: there is no limit (02, wish 6), and no section that says so
+    ∷ on (after sampleCard (wrongPin1 ∷ wrongPin1 ∷ wrongPin1 ∷ unblockPin1 puk pin1 ∷ [])) 1118 (wrote 84) (sampleImage ++ replicate 1034 0xEE)
+    -- with a limit on unblocking
+    ∷ on (withCounts sampleCard (0 ∷ noLimit ∷ [])) 1118 (wrote 87) (sampleImage ++ 2 ∷ 0 ∷ 0xA5 ∷ replicate 1031 0xEE)
     -- a bad state before a short buffer
     ∷ on emptyRecord 0 (unwritten 1) []
-    ∷ on emptyRecord 1115 (unwritten 1) (replicate 1115 0xEE)
-    ∷ on sampleCard 1114 (unwritten 2) (replicate 1114 0xEE)
+    ∷ on emptyRecord 1118 (unwritten 1) (replicate 1118 0xEE)
+    ∷ on (withCounts sampleCard (noLimit ∷ 0xA6 ∷ [])) 1118 (unwritten 1) (replicate 1118 0xEE)
+    ∷ on sampleCard 1117 (unwritten 2) (replicate 1117 0xEE)
     ∷ []
 
 pub record WritingsShown : Type 0 where

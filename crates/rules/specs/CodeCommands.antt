@@ -1,5 +1,5 @@
 -- Document 01, "Order of judgement for a command", step 7: VERIFY, CHANGE REFERENCE DATA and RESET RETRY COUNTER. They change nothing but
--- the codes, and answer by a status word alone.
+-- the codes (RESET RETRY the unblocking counts too; 02, wish 6), and answer by a status word alone.
 use Prim.Native.Nat.{ℕ, _+_, _-_}
 use mathlib.Core.Path.{_≡_}
 use mathlib.Core.Bool.{true, false, cond, not}
@@ -13,6 +13,7 @@ use Rattle.rules.specs.declared.Header.{Header}
 use Rattle.rules.specs.declared.Verdict.{Verdict}
 use Rattle.rules.specs.declared.Verdict.the-variants.{Right, Wrong, NoTries}
 use Rattle.rules.specs.Codes.{PUK, fullTries, allowed, value, storing, withValue, marked, codeOf, withCode}
+use Rattle.rules.specs.Codes.{countOf, withCount, lowered}
 use Rattle.rules.specs.State.{goodCodes}
 use Rattle.rules.specs.Answers.{codeStatus}
 
@@ -91,13 +92,19 @@ unblockByPresentedPuk codes pin d =
     let stored = unblocked codes pin (withValue (codeOf codes pin) new) fullTries in
     replaced codes PUK pin new stored (verdict (codeOf codes PUK) (oldValue codes PUK d))
 
--- 2C RESET RETRY. PIN has tries: 6A86. P1 03, and P1 00 (the last row).
-unfoldable pub resetRetry : List Code → Header → Bytes → CodeStep
-resetRetry codes h d =
+-- 2C RESET RETRY. PIN has tries: 6A86. Its unblocking count is 0: 6983, before the PUK is looked at (02, wish 6). P1 03, and P1 00 (the last
+-- row).
+unfoldable pub resetRetry : List Code → List ℕ → Header → Bytes → CodeStep
+resetRetry codes counts h d =
     let pin = h .p2 in
     cond (not (eqb (codeOf codes pin .tries) 0)) (codeStatus codes swHasTries)
+    (cond (eqb (countOf counts pin) 0) (codeStatus codes 0x6983)
     (cond (eqb (h .p1) 0x03) (unblockByVerifiedPuk codes pin)
-    (unblockByPresentedPuk codes pin d))
+    (unblockByPresentedPuk codes pin d)))
+
+-- The unblocking counts after 2C: that of the PIN lowered where it was answered 9000, else as they were (02, wish 6).
+unfoldable pub countsLeft : List ℕ → ℕ → ℕ → List ℕ
+countsLeft counts pin sw = cond (eqb sw 0x9000) (withCount counts pin (lowered (countOf counts pin))) counts
 
 -- What the contract of RESET RETRY says besides (02, wish 4): on good codes, 9000 leaves the marks of the PIN and of PUK off.
 abbrev pub LeavesClosed : List Code → ℕ → CodeStep → Type 0

@@ -1,5 +1,5 @@
--- What opens and closes a code, what moves its retry counter, and what stores a value: the code after any call, in terms of the code
--- before it, the call's bytes and its answer; and what a query is told of it. One sheet for the three codes.
+-- What opens and closes a code, what moves its retry counter, what stores a value, and what moves a PIN's unblocking count: the code after
+-- any call, in terms of the code before it, the call's bytes and its answer; and what a query is told of it. One sheet for the three codes.
 use Prim.Native.Nat.{ℕ, _+_, _-_, _≤_, _<_}
 use mathlib.Core.Path.{_≡_}
 use mathlib.Core.Bool.{Bool, true, false, cond, not, _&&_, _||_}
@@ -8,10 +8,12 @@ use lib.ListN.{length, take, drop}
 use lib.Dec.{eqb}
 use Rattle.octets.specs.Octets.{Bytes, same}
 use Rattle.rules.specs.declared.Card.{Card}
+use Rattle.rules.specs.declared.Command.the-variants.{ResetRetry}
 use Rattle.rules.specs.declared.Header.{Header}
 use Rattle.rules.specs.declared.JobKind.the-variants.{Authenticate, Decipher}
 use Rattle.rules.specs.Numbers.{kindNumber, Returned, edge, responded, handedOut, wasReset}
-use Rattle.rules.specs.Codes.{PUK, PIN1, PIN2, fullTries, value, codeOf}
+use Rattle.rules.specs.Codes.{PUK, PIN1, PIN2, fullTries, value, codeOf, countOf, lowered}
+use Rattle.rules.specs.Judgement.{lengths}
 use Rattle.rules.specs.Edge.{Result}
 use Rattle.rules.specs.Counting.{Call, Exchange, step, next, exchangeOf, exchange, statusWord, sentBy, readOff, dataSent, okStatus}
 use Rattle.rules.specs.Counting.{returnedKind, wrongStatus, isCommand, queries, unblocks, presentsPuk, answers}
@@ -135,10 +137,34 @@ pub record Asked (k : ℕ) (c : Card) (x : Call) (o : Result) : Type 0 where
   pub blocked : answers blockedStatus (asksAbout k) (exchangeOf x o) ≡ true → codeOf (c .codes) k .tries ≡ 0
   pub hasTries : answers (λ sw. okStatus sw || wrongStatus sw) (asksAbout k) (exchangeOf x o) ≡ true → 1 ≤ codeOf (c .codes) k .tries
 
+-- A 2C for PIN k that steps 2 to 6 let pass: class 00h, and data with P1 00 alone.
+abbrev pub unblocksPlainly : ℕ → Header → Bool
+unblocksPlainly k h = unblocks k h && eqb (h .cla) 0x00 && lengths ResetRetry h
+
+-- What it is answered where the PIN's count is used up, or 0 where the edge refused it.
+abbrev pub usedUpStatus : ℕ → Bool
+usedUpStatus sw = eqb sw 0 || blockedStatus sw
+
+-- The unblocking count of a PIN after a call (02, wish 6): lowered by an unblocking of it, else as before.
+abbrev pub countAfter : ℕ → Exchange → ℕ → ℕ
+countAfter k e n = cond (unblocking k e) (lowered n) n
+
+-- The sheet's column for the unblocking count of PIN k, before and after a call x on the card c that gave o.
+pub record CountColumn (k : ℕ) (c : Card) (x : Call) (o : Result) : Type 0 where
+  pub count : countOf (o .card .counts) k ≡ countAfter k (exchangeOf x o) (countOf (c .counts) k)
+  -- at 0 no unblocking happens, and a 2C for the PIN moves no code: a wrong PUK costs no try, a right one gives none back
+  pub notAtZero : unblocking k (exchangeOf x o) ≡ true → 1 ≤ countOf (c .counts) k
+  pub codesStay : isCommand (unblocks k) x ≡ true → countOf (c .counts) k ≡ 0 → o .card .codes ≡ c .codes
+
 -- For each code, every card, good or not, and every call.
 pub record CodeSheet : Type 0 where
   -- the code after the call
   pub after : (k : ℕ) → k < 3 → (c : Card) (x : Call) → Sheet k c x (step c x)
+  -- a PIN's unblocking count after the call
+  pub counted : (k : ℕ) → 1 ≤ k → k < 3 → (c : Card) (x : Call) → CountColumn k c x (step c x)
+  -- a blocked PIN whose count is 0 is answered 6983, in both forms, where the edge does not refuse the call
+  pub usedUp : (k : ℕ) → 1 ≤ k → k < 3 → (c : Card) (x : Call) → isCommand (unblocksPlainly k) x ≡ true
+      → codeOf (c .codes) k .tries ≡ 0 → countOf (c .counts) k ≡ 0 → usedUpStatus (statusWord (exchange c x)) ≡ true
   -- what a query is told
   pub asked : (k : ℕ) → k < 3 → (c : Card) (x : Call) → Asked k c x (step c x)
 

@@ -1,8 +1,9 @@
--- Document 01, "What the card has": the three codes (reference data), their limits and their retry counters.
+-- Document 01, "What the card has": the three codes (reference data), their limits and their retry counters; document 02, wish 6: the
+-- unblocking counts of the PINs.
 -- "Tries left" is document 01's term for the retry counter, "verified mark" for the verified state of a code.
-use Prim.Native.Nat.{ℕ}
+use Prim.Native.Nat.{ℕ, _-_}
 use mathlib.Core.Bool.{Bool, false, cond, _&&_}
-use mathlib.Core.List.{List}
+use mathlib.Core.List.{List, [], _∷_}
 use lib.ListN.{length, take, getD, set}
 use lib.Dec.{eqb, leb}
 use Rattle.octets.specs.Octets.{Bytes, allDigits, blank, filled}
@@ -68,3 +69,27 @@ withCode codes k v = set codes k v
 -- Code k's verified mark goes off.
 abbrev pub closed : List Code → ℕ → List Code
 closed codes k = withCode codes k (marked (codeOf codes k) (codeOf codes k .tries) false)
+
+-- Document 02, wish 6: the unblocking counts of PIN1 and PIN2, in this order. "Unblocking count" is document 02's term: how often RESET RETRY
+-- may still unblock the PIN. A5h means no limit.
+abbrev pub noLimit : ℕ
+noLimit = 0xA5
+
+abbrev pub noLimits : List ℕ
+noLimits = noLimit ∷ noLimit ∷ []
+
+-- The count of a PIN, by its code number, 1 or 2. PUK has none, and no rule asks for it.
+abbrev pub countOf : List ℕ → ℕ → ℕ
+countOf counts pin = getD counts (pin - 1) 0
+
+-- The counts with that of a PIN replaced.
+abbrev pub withCount : List ℕ → ℕ → ℕ → List ℕ
+withCount counts pin n = set counts (pin - 1) n
+
+-- A count after an unblocking: one less, unless it is A5h. At 0 there is no unblocking (`CodeCommands.resetRetry`).
+unfoldable pub lowered : ℕ → ℕ
+lowered n = cond (eqb n noLimit) n (n - 1)
+
+-- Neither PIN has a limit: A5h twice.
+abbrev pub unlimited : List ℕ → Bool
+unlimited counts = eqb (countOf counts PIN1) noLimit && eqb (countOf counts PIN2) noLimit

@@ -1,10 +1,10 @@
 -- Document 01, "What demand 3 counts": sequences of calls, and what is counted of the calls' bytes and what they wrote and returned.
--- "Wrong answer", "restoration", "unblocking" and "right presentation" are document 01's terms, "successful CHANGE" is document 02's;
--- "exchange" and "trace" are ours.
-use Prim.Native.Nat.{ℕ, zero, suc, _+_, _-_}
-use mathlib.Core.Bool.{Bool, true, false, not, _&&_, _||_}
+-- "Wrong answer", "restoration", "unblocking" and "right presentation" are document 01's terms, "successful CHANGE" and "count at load"
+-- document 02's; "exchange" and "trace" are ours.
+use Prim.Native.Nat.{ℕ, zero, suc, _+_, _-_, _*_}
+use mathlib.Core.Bool.{Bool, true, false, cond, not, _&&_, _||_}
 use mathlib.Core.List.{List, [], _∷_}
-use lib.ListN.{drop}
+use lib.ListN.{length, drop}
 use lib.Dec.{eqb, leb}
 use Rattle.octets.specs.Octets.{Bytes, byteAt, word, allBytes}
 use Rattle.rules.specs.declared.Card.{Card}
@@ -12,7 +12,7 @@ use Rattle.rules.specs.declared.Header.{Header}
 use Rattle.rules.specs.declared.JobKind.the-variants.{Sign}
 use Rattle.rules.specs.Numbers.{kindNumber, Returned, edge, responded, handedOut, wasReset, LengthForm, form}
 use Rattle.rules.specs.Numbers.{refused}
-use Rattle.rules.specs.Codes.{PUK, PIN2}
+use Rattle.rules.specs.Codes.{PUK, PIN2, noLimit}
 use Rattle.rules.specs.Apdu.{parse, dataOf}
 use Rattle.rules.specs.Judgement.{hasData}
 use Rattle.rules.specs.Edge.{Result, command, delivery, powerReset}
@@ -206,3 +206,20 @@ imageFrom image (suc k) = drop (suc (suc (byteAt (imageFrom image k) 0))) (image
 
 abbrev pub triesAtLoad : Bytes → ℕ → ℕ
 triesAtLoad image k = byteAt (imageFrom image k) (suc (byteAt (imageFrom image k) 0))
+
+-- The unblocking count that an image gives PIN k (02, wish 6). Behind the codes stand the keys, a count and two bytes each; the references, a
+-- count and 21 bytes; the personal records, a count and then each as length, bytes. Behind them the image ends, which means A5h for both
+-- PINs, or the last section stands: byte 0 is its count, 2, and byte k is the unblocking count of PIN k.
+abbrev pub behindKeys : Bytes → Bytes
+behindKeys image = drop (suc (2 * byteAt (imageFrom image 3) 0)) (imageFrom image 3)
+
+-- What stands behind n records, each as length, bytes.
+unfoldable pub behindRecords : ℕ → Bytes → Bytes
+behindRecords zero b = b
+behindRecords (suc n) b = behindRecords n (drop (suc (byteAt b 0)) b)
+
+abbrev pub lastSection : Bytes → Bytes
+lastSection image = behindRecords 16 (drop 1 (drop 22 (behindKeys image)))
+
+unfoldable pub countAtLoad : Bytes → ℕ → ℕ
+countAtLoad image k = cond (eqb (length (lastSection image)) 0) noLimit (byteAt (lastSection image) k)

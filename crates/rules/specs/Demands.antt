@@ -13,7 +13,7 @@ use Rattle.rules.specs.declared.Header.{Header}
 use Rattle.rules.specs.declared.JobKind.the-variants.{Decipher}
 use Rattle.rules.specs.declared.Session.{Session}
 use Rattle.rules.specs.Numbers.{kindNumber, Returned, edge, responded, handedOut, wasReset, refused}
-use Rattle.rules.specs.Codes.{PUK, PIN2, codeOf}
+use Rattle.rules.specs.Codes.{PUK, PIN2, codeOf, noLimit, countOf}
 use Rattle.rules.specs.Session.{chainBytes, newSession}
 use Rattle.rules.specs.State.{good}
 use Rattle.rules.specs.Apdu.{parse}
@@ -21,7 +21,7 @@ use Rattle.rules.specs.Edge.{refuse}
 use Rattle.rules.specs.Image.{load, zeroCard}
 use Rattle.rules.specs.Counting.{Call, Command, Delivery, PowerReset, step, next, exchange, trace, statusWord}
 use Rattle.rules.specs.Counting.{dataSent, wrongAnswers, restorations, unblockings, signatures, pin2Presentations, pin2Changes}
-use Rattle.rules.specs.Counting.{isCommand, queries, ofBytes, allOfBytes, triesAtLoad}
+use Rattle.rules.specs.Counting.{isCommand, queries, ofBytes, allOfBytes, triesAtLoad, countAtLoad}
 
 -- The buffer that a call brings.
 abbrev pub bufferOf : Call → Bytes
@@ -115,7 +115,7 @@ pub record Demand1 : Type 0 where
       → (step c (Delivery result buffer) .returned ≡ responded 2)
       × (step c (Delivery result buffer) .buffer ≡ 0x64 ∷ 0x00 ∷ drop 2 buffer)
 
--- No call changes what load stored beside the codes: keys, the record of 0033h, personal records.
+-- No call changes what load stored beside the codes and the unblocking counts: keys, the record of 0033h, personal records.
 abbrev pub ProfileKept : Type 0
 ProfileKept = (c : Card) (x : Call) → next c x .profile ≡ c .profile
 
@@ -125,15 +125,17 @@ pub record GoodStates : Type 0 where
   pub kept : (c : Card) (x : Call) → ofBytes x ≡ true → good c ≡ true → good (next c x) ≡ true
   pub zero : good zeroCard ≡ false
 
--- Images: one that loads has 84 to 1,115 bytes, and its card starts in a new session, with no code verified and the tries that the
--- image gives; a refused one gives its number, from 21 to 27, beside the all-zero state.
+-- Images: one that loads has 84 to 1,118 bytes, and its card starts in a new session, with no code verified and the tries and unblocking
+-- counts that the image gives; a refused one gives its number, from 21 to 28, beside the all-zero state.
 pub record Images : Type 0 where
-  pub read : (image : Bytes) → load image .0 ≡ 0 → (84 ≤ length image) × (length image ≤ 1115)
+  pub read : (image : Bytes) → load image .0 ≡ 0 → (84 ≤ length image) × (length image ≤ 1118)
   pub session : (image : Bytes) → load image .0 ≡ 0 → load image .1 .session ≡ newSession
   pub unverified : (image : Bytes) → load image .0 ≡ 0 → (k : ℕ) → k < 3 → codeOf (load image .1 .codes) k .verified ≡ false
   pub tries : (image : Bytes) → load image .0 ≡ 0 → (k : ℕ) → k < 3 → codeOf (load image .1 .codes) k .tries ≡ triesAtLoad image k
+  pub counts : (image : Bytes) → load image .0 ≡ 0 → (k : ℕ) → 1 ≤ k → k < 3
+      → countOf (load image .1 .counts) k ≡ countAtLoad image k
   pub refused : (image : Bytes) → ¬ (load image .0 ≡ 0)
-      → (load image .1 ≡ zeroCard) × (21 ≤ load image .0) × (load image .0 ≤ 27)
+      → (load image .1 ≡ zeroCard) × (21 ≤ load image .0) × (load image .0 ≤ 28)
 
 -- Calls of real bytes after which code k has exactly so many restorations, unblockings and wrong answers.
 pub record Reached (c : Card) (k r u w : ℕ) : Type 0 where
@@ -151,22 +153,38 @@ pub record SignedWith (c : Card) (v n s : ℕ) : Type 0 where
   pub changed : pin2Changes (trace c calls) ≡ n
   pub signed : signatures (trace c calls) ≡ s
 
+-- u unblockings are within an unblocking count: at most that many, or any number where the count is A5h (02, wish 6).
+abbrev pub Within : ℕ → ℕ → Type 0
+Within count u = ¬ (count ≡ noLimit) → u ≤ count
+
+-- Calls of real bytes with u unblockings of PIN k.
+pub record UnblockedTimes (c : Card) (k u : ℕ) : Type 0 where
+  pub calls : List Call
+  pub ofBytes : allOfBytes calls ≡ true
+  pub unblocked : unblockings k (trace c calls) ≡ u
+
 -- Demand 3, of the card that load returned for an image.
 pub record Counted (image : Bytes) (c : Card) : Type 0 where
   -- wrong answers are at most tries at load + 2 times restorations + 3 times unblockings
   pub bound : (calls : List Call) (k : ℕ) → k < 3
       → wrongAnswers k (trace c calls) ≤ triesAtLoad image k + 2 * restorations k (trace c calls) + 3 * unblockings k (trace c calls)
-  -- the bound is met, from every loaded card with three tries on each code, for each code by itself
+  -- the bound is met, from every loaded card with three tries on each code, for each code by itself, and a PIN's unblockings within its
+  -- count at load (02, wish 6)
   pub met : ((k : ℕ) → k < 3 → triesAtLoad image k ≡ 3)
-      → (k : ℕ) → k < 3 → (r u : ℕ) → (k ≡ PUK → u ≡ 0) → Reached c k r u (3 + 2 * r + 3 * u)
+      → (k : ℕ) → k < 3 → (r u : ℕ) → (k ≡ PUK → u ≡ 0) → (1 ≤ k → Within (countAtLoad image k) u) → Reached c k r u (3 + 2 * r + 3 * u)
   -- the signatures handed to the key host are at most the right presentations of PIN2 by VERIFY and its successful CHANGEs together
   pub signed : (calls : List Call) → signatures (trace c calls) ≤ pin2Presentations (trace c calls) + pin2Changes (trace c calls)
   -- that sum is met, from every loaded card on which PIN2 has a try left, whatever its two parts are; so both are needed
   pub signedMet : 1 ≤ triesAtLoad image PIN2 → (v n : ℕ) → SignedWith c v n (v + n)
+  -- unblockings of a PIN never outnumber its count at load, unless that is A5h (02, wish 6)
+  pub limited : (calls : List Call) (k : ℕ) → 1 ≤ k → k < 3 → Within (countAtLoad image k) (unblockings k (trace c calls))
+  -- that limit is met, and every number within it can be had, from every loaded card on which PUK has a try left
+  pub limitedMet : 1 ≤ triesAtLoad image PUK → (k : ℕ) → 1 ≤ k → k < 3 → (u : ℕ) → Within (countAtLoad image k) u → UnblockedTimes c k u
 
--- A call that leaves all codes as they were and adds nothing to what demand 3 counts, whatever calls follow it.
+-- A call that leaves all codes and unblocking counts as they were and adds nothing to what demand 3 counts, whatever calls follow it.
 pub record Uncounted (c : Card) (x : Call) : Type 0 where
   pub codes : next c x .codes ≡ c .codes
+  pub counts : next c x .counts ≡ c .counts
   pub wrong : (k : ℕ) (calls : List Call) → wrongAnswers k (trace c (x ∷ calls)) ≡ wrongAnswers k (trace (next c x) calls)
   pub restored : (k : ℕ) (calls : List Call) → restorations k (trace c (x ∷ calls)) ≡ restorations k (trace (next c x) calls)
   pub unblocked : (k : ℕ) (calls : List Call) → unblockings k (trace c (x ∷ calls)) ≡ unblockings k (trace (next c x) calls)

@@ -37,7 +37,7 @@ written buffer c (job kind key block) =
 
 -- The card after a step. No call changes the rest of the card.
 abbrev pub cardAfter : Card → Step → Card
-cardAfter c o = record { codes = o .codes; profile = c .profile; session = o .session }
+cardAfter c o = record { codes = o .codes; counts = o .counts; profile = c .profile; session = o .session }
 
 abbrev pub answered : Bytes → Card → Step → Result
 answered buffer c o = written buffer (cardAfter c o) (o .answer)
@@ -69,10 +69,17 @@ delivery c result buffer =
     cond (not (good c)) (refuse c buffer 1)
     (cond (shortBuffer buffer) (refuse c buffer 2)
     (cond (not (jobWaits c)) (refuse c buffer 5)
-    (answered buffer c (inSession (c .codes) (deliver (c .session) result)))))
+    (answered buffer c (inSession (c .codes) (c .counts) (deliver (c .session) result)))))
 
--- A power reset, which has no buffer. Marks off and a new session; code values and tries are kept.
+-- A power reset, which has no buffer. Marks off and a new session; code values, tries and unblocking counts are kept.
 unfoldable pub powerReset : Card → Returned × Card
 powerReset c =
-    cond (not (good c)) (edge 1, c)
-    (wasReset, record { codes = closed (closed (closed (c .codes) PUK) PIN1) PIN2; profile = c .profile; session = newSession })
+    cond (not (good c)) (edge 1, c) (
+      wasReset,
+      record {
+        codes = closed (closed (closed (c .codes) PUK) PIN1) PIN2;
+        counts = c .counts;
+        profile = c .profile;
+        session = newSession;
+      },
+    )

@@ -1,6 +1,7 @@
--- Document 01, "Card image (house)": what load reads, and the first fault in reading order. "Card image" and "load" are document 01's terms.
+-- Document 01, "Card image (house)", and document 02, wish 6, its last section: what load reads, and the first fault in reading order.
+-- "Card image" and "load" are document 01's terms.
 use Prim.Native.Nat.{ℕ, zero, suc}
-use mathlib.Core.Bool.{Bool, true, false, cond, _&&_, _||_}
+use mathlib.Core.Bool.{Bool, true, false, cond, not, _&&_, _||_}
 use mathlib.Core.List.{List, [], _∷_}
 use lib.ListN.{length, replicate}
 use lib.Dec.{eqb, leb, ltb}
@@ -10,7 +11,8 @@ use Rattle.rules.specs.declared.Code.{Code}
 use Rattle.rules.specs.declared.Record.{Record}
 use Rattle.rules.specs.declared.JobKind.the-variants.{Authenticate, Sign}
 use Rattle.rules.specs.Numbers.{kindNumber}
-use Rattle.rules.specs.Codes.{PUK, PIN1, PIN2, least, most, fullTries, storing, zeroCode}
+use Rattle.rules.specs.Codes.{PUK, PIN1, PIN2, least, most, fullTries, storing, zeroCode, noLimit, noLimits}
+use Rattle.rules.specs.Codes.{unlimited}
 use Rattle.rules.specs.Keys.{signatureKey, authenticationKey, usable, activeKey}
 use Rattle.rules.specs.Session.{newSession}
 
@@ -142,16 +144,35 @@ personalSection = do
   count 16
   readRecords 16
 
+-- An unblocking count, 0 to A5h: 28 (02, wish 6).
+abbrev pub readCount : Reading ℕ
+readCount = byteIf (λ n. leb n noLimit) 28
+
+-- Unblocking counts, the last section: 2; PIN1's, PIN2's. A5h twice, judged after the second byte: 28.
+unfoldable pub countSection : Reading (List ℕ)
+countSection = do
+  count 2
+  pin1 ← readCount
+  pin2 ← readCount
+  require (not (unlimited (pin1 ∷ pin2 ∷ []))) 28
+  pure (pin1 ∷ pin2 ∷ [])
+
+-- An image that ends after the personal records means A5h for both.
+unfoldable pub readCounts : Reading (List ℕ)
+readCounts [] = got noLimits []
+readCounts (x ∷ b) = countSection (x ∷ b)
+
 -- Bytes left over: 27.
 unfoldable pub end : Reading Bool
 end [] = got true []
 end (x ∷ b) = fault 27
 
 -- The card that the sections say, in a new session.
-abbrev pub cardOf : List Code → List Bool → Bytes → List Record → Card
-cardOf codes keys references personal =
+abbrev pub cardOf : List Code → List Bool → Bytes → List Record → List ℕ → Card
+cardOf codes keys references personal counts =
     record {
       codes = codes;
+      counts = counts;
       profile = record { keys = keys; references = references; personal = personal };
       session = newSession;
     }
@@ -163,8 +184,9 @@ readCard = do
   keys ← keySection
   references ← referenceSection keys
   personal ← personalSection
+  counts ← readCounts
   end
-  pure (cardOf codes keys references personal)
+  pure (cardOf codes keys references personal counts)
 
 -- The all-zero state, which isn't good.
 abbrev pub zeroRecord : Record
@@ -174,6 +196,7 @@ unfoldable pub zeroCard : Card
 zeroCard =
     record {
       codes = replicate 3 zeroCode;
+      counts = blank 2;
       profile = record { keys = replicate 4 false; references = blank 21; personal = replicate 16 zeroRecord };
       session = record {
         selection = record { directory = 0; file = 0 };

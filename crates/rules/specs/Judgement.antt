@@ -15,7 +15,7 @@ use Rattle.rules.specs.Apdu.{parse, dataOf}
 use Rattle.rules.specs.Session.{dropHeld, dropChain, dropBoth}
 use Rattle.rules.specs.Answers.{Step, status, inSession, inCodes}
 use Rattle.rules.specs.FileCommands.{select, readRecord, readBinary, getResponse}
-use Rattle.rules.specs.CodeCommands.{verify, change, resetRetry}
+use Rattle.rules.specs.CodeCommands.{verify, change, resetRetry, countsLeft}
 use Rattle.rules.specs.KeyCommands.{setEnvironment, chooseKey, internalAuthenticate, sign, decipher}
 
 -- The commands, in document 01's order.
@@ -93,24 +93,26 @@ lengths Decipher h = hasData h
 -- The own rules of each. Every call except a GET RESPONSE that yields data drops the held answer; every one except a 2A 80 86 that
 -- passes 1 to 6 drops the chain. So GET RESPONSE gets the held answer and 2A 80 86 the chain, and their own rules say what becomes of it.
 unfoldable pub ownRules : Command → Card → Header → Bytes → Bytes → Bytes → Step
-ownRules Select c h d authentication signature = inSession (c .codes) (select (dropBoth (c .session)) h d)
-ownRules ReadRecord c h d authentication signature = inSession (c .codes) (readRecord (c .codes) (c .profile) (dropBoth (c .session)) h)
-ownRules ReadBinary c h d authentication signature = inSession (c .codes) (readBinary (dropBoth (c .session)) h authentication signature)
-ownRules GetResponse c h d authentication signature = inSession (c .codes) (getResponse (dropChain (c .session)) h)
-ownRules Verify c h d authentication signature = inCodes (dropBoth (c .session)) (verify (c .codes) h d)
-ownRules Change c h d authentication signature = inCodes (dropBoth (c .session)) (change (c .codes) h d)
-ownRules ResetRetry c h d authentication signature = inCodes (dropBoth (c .session)) (resetRetry (c .codes) h d)
-ownRules SetEnvironment c h d authentication signature = inSession (c .codes) (setEnvironment (dropBoth (c .session)) h)
-ownRules ChooseKey c h d authentication signature = inSession (c .codes) (chooseKey (c .profile .keys) (dropBoth (c .session)) h d)
+ownRules Select c h d authentication signature = inSession (c .codes) (c .counts) (select (dropBoth (c .session)) h d)
+ownRules ReadRecord c h d authentication signature = inSession (c .codes) (c .counts) (readRecord (c .codes) (c .profile) (dropBoth (c .session)) h)
+ownRules ReadBinary c h d authentication signature = inSession (c .codes) (c .counts) (readBinary (dropBoth (c .session)) h authentication signature)
+ownRules GetResponse c h d authentication signature = inSession (c .codes) (c .counts) (getResponse (dropChain (c .session)) h)
+ownRules Verify c h d authentication signature = inCodes (c .counts) (dropBoth (c .session)) (verify (c .codes) h d)
+ownRules Change c h d authentication signature = inCodes (c .counts) (dropBoth (c .session)) (change (c .codes) h d)
+ownRules ResetRetry c h d authentication signature =
+    let o = resetRetry (c .codes) (c .counts) h d in
+    inCodes (countsLeft (c .counts) (h .p2) (o .sw)) (dropBoth (c .session)) o
+ownRules SetEnvironment c h d authentication signature = inSession (c .codes) (c .counts) (setEnvironment (dropBoth (c .session)) h)
+ownRules ChooseKey c h d authentication signature = inSession (c .codes) (c .counts) (chooseKey (c .profile .keys) (dropBoth (c .session)) h d)
 ownRules InternalAuthenticate c h d authentication signature =
-    inSession (c .codes) (internalAuthenticate (c .codes) (c .profile .references) (dropBoth (c .session)) h d)
-ownRules ComputeSignature c h d authentication signature = sign (c .codes) (c .profile .references) (dropBoth (c .session)) h d
+    inSession (c .codes) (c .counts) (internalAuthenticate (c .codes) (c .profile .references) (dropBoth (c .session)) h d)
+ownRules ComputeSignature c h d authentication signature = sign (c .codes) (c .counts) (c .profile .references) (dropBoth (c .session)) h d
 ownRules Decipher c h d authentication signature =
-    inSession (c .codes) (decipher (c .codes) (c .profile .references) (dropHeld (c .session)) h d)
+    inSession (c .codes) (c .counts) (decipher (c .codes) (c .profile .references) (dropHeld (c .session)) h d)
 
 -- A refusal by steps 1 to 6 drops the held answer and the chain.
 abbrev pub refusal : Card → ℕ → Step
-refusal c sw = status (c .codes) (dropBoth (c .session)) sw
+refusal c sw = status (c .codes) (c .counts) (dropBoth (c .session)) sw
 
 -- 2. Class 00h or 10h, else 6E00.
 abbrev pub knownClass : Header → Bool

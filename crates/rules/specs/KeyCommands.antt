@@ -67,14 +67,14 @@ internalAuthenticate codes references s h d =
     (handOut s kind (jobKey references s kind) (h .le) (padded d)))
 
 -- 2A 9E 9A SIGN. Not a digest of the list 6A80; environment not 1: 6985; PIN2 not verified 6982.
--- Job 2, and PIN2's mark goes off as the job is handed out (house, after userConsent 1 in 001).
-unfoldable pub sign : List Code → Bytes → Session → Header → Bytes → Step
-sign codes references s h d =
+-- Job 2, and PIN2's mark goes off as the job is handed out (house, after userConsent 1 in 001). The unblocking counts stay.
+unfoldable pub sign : List Code → List ℕ → Bytes → Session → Header → Bytes → Step
+sign codes counts references s h d =
     let kind = kindNumber Sign in
-    cond (not (isDigest d)) (status codes s 0x6A80)
-    (cond (not (eqb (s .environment .number) 1)) (status codes s 0x6985)
-    (cond (not (codeOf codes PIN2 .verified)) (status codes s swWithoutPin)
-    (inSession (closed codes PIN2) (handOut s kind (jobKey references s kind) (h .le) (padded d)))))
+    cond (not (isDigest d)) (status codes counts s 0x6A80)
+    (cond (not (eqb (s .environment .number) 1)) (status codes counts s 0x6985)
+    (cond (not (codeOf codes PIN2 .verified)) (status codes counts s swWithoutPin)
+    (inSession (closed codes PIN2) counts (handOut s kind (jobKey references s kind) (h .le) (padded d)))))
 
 -- 2A 80 86 DECIPHER of class 00h, once 257 bytes are joined: first byte not 00, 6A80; environment not 6: 6985; PIN1 not verified 6982;
 -- job 3 with the last 256. Each empties the chain.

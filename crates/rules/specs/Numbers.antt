@@ -18,7 +18,7 @@ use Rattle.rules.specs.declared.Reply.{Reply}
 use Rattle.rules.specs.declared.Reply.the-variants.{Refused, Response, HandedOut, WasReset}
 use Rattle.rules.specs.declared.Fault.{Fault}
 use Rattle.rules.specs.declared.Fault.the-variants.{EndsEarly, WrongCount, BadCode, BadKey, BadReference}
-use Rattle.rules.specs.declared.Fault.the-variants.{RecordLength, LeftOver}
+use Rattle.rules.specs.declared.Fault.the-variants.{RecordLength, LeftOver, UnblockingCount}
 use Rattle.rules.specs.declared.LoadResult.{LoadResult}
 use Rattle.rules.specs.declared.LoadResult.the-variants.{Accepted, Faulty}
 use Rattle.rules.specs.declared.WriteResult.{WriteResult}
@@ -51,7 +51,7 @@ returned (Response n) = responded n
 returned (HandedOut kind key) = handedOut (kindNumber kind) key
 returned WasReset = wasReset
 
--- The faults of a card image, 21 to 27.
+-- The faults of a card image, 21 to 28 (28 since 02, wish 6).
 abbrev pub faultNumber : Fault → ℕ
 faultNumber EndsEarly = 21
 faultNumber WrongCount = 22
@@ -60,6 +60,7 @@ faultNumber BadKey = 24
 faultNumber BadReference = 25
 faultNumber RecordLength = 26
 faultNumber LeftOver = 27
+faultNumber UnblockingCount = 28
 
 -- What load answers: a fault's number, or 0 where the image was accepted.
 abbrev pub loadNumber : LoadResult → ℕ

@@ -1,5 +1,5 @@
 -- Document 01, "Cases": the sample card. PIN1 1234, PIN2 12345, PUK 12345678, 3 tries, keys 0100h and 1100h, both active,
--- other bytes of 0033h zero, each personal record one byte 20h.
+-- other bytes of 0033h zero, each personal record one byte 20h. No limit on unblocking (02, wish 6).
 use Prim.Native.Nat.{ℕ, zero, suc}
 use mathlib.Core.Path.{_≡_}
 use mathlib.Core.Bool.{true, false}
@@ -7,7 +7,7 @@ use mathlib.Core.List.{[], _∷_, _++_}
 use lib.ListN.{replicate}
 use Rattle.octets.specs.Octets.{Bytes, filled}
 use Rattle.rules.specs.declared.Card.{Card}
-use Rattle.rules.specs.Codes.{fullTries, storing}
+use Rattle.rules.specs.Codes.{fullTries, storing, noLimits}
 use Rattle.rules.specs.Session.{newSession}
 use Rattle.rules.specs.Image.{load}
 
@@ -28,6 +28,7 @@ unfoldable pub sampleCard : Card
 sampleCard =
     record {
       codes = storing puk fullTries false ∷ storing pin1 fullTries false ∷ storing pin2 fullTries false ∷ [];
+      counts = noLimits;
       profile = record {
         keys = true ∷ false ∷ true ∷ false ∷ [];
         references = references;

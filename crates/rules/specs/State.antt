@@ -18,7 +18,7 @@ use Rattle.rules.specs.declared.Chain.{Chain}
 use Rattle.rules.specs.declared.Job.{Job}
 use Rattle.rules.specs.declared.JobKind.the-variants.{Authenticate, Sign, Decipher}
 use Rattle.rules.specs.Numbers.{kindNumber}
-use Rattle.rules.specs.Codes.{PUK, PIN1, PIN2, least, most, fullTries, value, codeOf}
+use Rattle.rules.specs.Codes.{PUK, PIN1, PIN2, least, most, fullTries, value, codeOf, noLimit, countOf}
 use Rattle.rules.specs.Keys.{usable, activeKey, choiceOf}
 use Rattle.rules.specs.Session.{root, esteidDirectory, noFile}
 use Rattle.rules.specs.Files.{filesIn, noRecord}
@@ -43,6 +43,16 @@ goodCodes codes =
     ∷ goodCode PUK (codeOf codes PUK)
     ∷ goodCode PIN1 (codeOf codes PIN1)
     ∷ goodCode PIN2 (codeOf codes PIN2)
+    ∷ []
+    )
+
+-- The two unblocking counts, each 0 to A5h (02, wish 6).
+unfoldable pub goodCounts : List ℕ → Bool
+goodCounts counts =
+    every (
+    eqb (length counts) 2
+    ∷ leb (countOf counts PIN1) noLimit
+    ∷ leb (countOf counts PIN2) noLimit
     ∷ []
     )
 
@@ -134,4 +144,11 @@ goodSession keys s =
 
 -- A good state.
 unfoldable pub good : Card → Bool
-good c = every (goodCodes (c .codes) ∷ goodProfile (c .profile) ∷ goodSession (c .profile .keys) (c .session) ∷ [])
+good c =
+    every (
+    goodCodes (c .codes)
+    ∷ goodCounts (c .counts)
+    ∷ goodProfile (c .profile)
+    ∷ goodSession (c .profile .keys) (c .session)
+    ∷ []
+    )

@@ -1,5 +1,5 @@
--- Document 02, wish 3: the image of a card, section by section as Image.antt reads it, and the call write. Neither a code's verified mark
--- nor anything of the session stands in an image.
+-- Document 02, wishes 3 and 6: the image of a card, section by section as Image.antt reads it, and the call write. Neither a code's verified
+-- mark nor anything of the session stands in an image.
 use Prim.Native.Nat.{ℕ, _/_, _%_}
 use mathlib.Core.Bool.{Bool, cond, not}
 use mathlib.Core.List.{List, [], _∷_, _++_}
@@ -10,7 +10,7 @@ use Rattle.rules.specs.declared.Card.{Card}
 use Rattle.rules.specs.declared.Code.{Code}
 use Rattle.rules.specs.declared.Record.{Record}
 use Rattle.rules.specs.Numbers.{Wrote, unwritten, wrote}
-use Rattle.rules.specs.Codes.{PUK, PIN1, PIN2, value, codeOf}
+use Rattle.rules.specs.Codes.{PUK, PIN1, PIN2, value, codeOf, countOf, unlimited}
 use Rattle.rules.specs.Keys.{present}
 use Rattle.rules.specs.State.{good}
 
@@ -57,17 +57,22 @@ recordsImage (r ∷ rs) = recordImage r ++ recordsImage rs
 unfoldable pub personalImage : List Record → Bytes
 personalImage personal = 16 ∷ recordsImage personal
 
+-- Unblocking counts: 2; PIN1's, PIN2's. No section where both are A5h (02, wish 6).
+unfoldable pub countsImage : List ℕ → Bytes
+countsImage counts = cond (unlimited counts) [] (2 ∷ countOf counts PIN1 ∷ countOf counts PIN2 ∷ [])
+
 -- The whole image: the sections in fixed order.
 unfoldable pub imageOf : Card → Bytes
 imageOf c =
     codesImage (c .codes)
     ++ (keysImage (c .profile .keys)
     ++ (referencesImage (c .profile .references)
-    ++ personalImage (c .profile .personal)))
+    ++ (personalImage (c .profile .personal)
+    ++ countsImage (c .counts))))
 
--- Edge refusal 2 of the writer: a buffer under 1,115 bytes.
+-- Edge refusal 2 of the writer: a buffer under 1,118 bytes (02, wish 6).
 abbrev pub shortForImage : Bytes → Bool
-shortForImage buffer = ltb (length buffer) 1115
+shortForImage buffer = ltb (length buffer) 1118
 
 -- The call write, of a card and a buffer: what it returns, and the buffer as it leaves it. The card stays.
 unfoldable pub write : Card → Bytes → Wrote × Bytes

@@ -24,6 +24,9 @@ impl Code {
     // The greatest length of a code.
     pub const MOST: usize = 12;
 
+    // The unblocking count that means no limit.
+    pub const NO_LIMIT: u8 = 0xA5;
+
     // The least length of the code of a number.
     pub fn least(number: usize) -> usize
         ensures { λ r. ⌜ r ≡ least number ⌝ }
@@ -99,10 +102,12 @@ pub struct Session {
     pub job: Job,
 }
 
-// The card. Widths and order of all its fields leave no padding between or behind them.
+// The card. Beside its codes stand the unblocking counts of PIN1 and PIN2, in this order: a code that is stored anew leaves
+// them as they are. Widths and order of all its fields leave no padding between or behind them.
 #[repr(C)]
 pub struct Card {
     pub codes: [Code; 3],
+    pub counts: [u8; 2],
     pub profile: Profile,
     pub session: Session,
 }
@@ -197,6 +202,7 @@ pub enum Fault {
     BadReference,
     RecordLength,
     LeftOver,
+    UnblockingCount,
 }
 
 // What load answers; `loadNumber` gives document 01's numbers.

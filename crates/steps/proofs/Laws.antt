@@ -1,4 +1,4 @@
--- Response data by Le; and a step in the session alone, with the codes beside it.
+-- Response data by Le; and a step in the session alone, with the codes and the unblocking counts beside it.
 use mathlib.Core.Path.{_≡_}
 use mathlib.Core.List.{List}
 use Prim.Native.Nat.{ℕ, _≤_, _<_}
@@ -21,6 +21,6 @@ module _ (s : Session) (le : ℕ) (d : Bytes) where
   unfolding give
   give-held h = simp (lt-leb (length d) le h)
 
-pub with-codes : (x : SessionStep) {codes next : List Code} {o : SessionOutput} → next ≡ codes → o ≡ sessionOutputFor x
-    → record { codes = next; session = o .session; output = o .output } ≡ stepOutputFor (inSession codes x)
+pub with-codes : (x : SessionStep) {codes next : List Code} {counts : List ℕ} {o : SessionOutput} → next ≡ codes → o ≡ sessionOutputFor x
+    → record { codes = next; counts = counts; session = o .session; output = o .output } ≡ stepOutputFor (inSession codes counts x)
 with-codes x e f = simp (e, f)

@@ -8,4 +8,4 @@ abbrev pub sessionOutputFor : SessionStep → SessionOutput
 sessionOutputFor o = record { session = o .session; output = outputFor (o .answer) }
 
 abbrev pub stepOutputFor : Step → StepOutput
-stepOutputFor o = record { codes = o .codes; session = o .session; output = outputFor (o .answer) }
+stepOutputFor o = record { codes = o .codes; counts = o .counts; session = o .session; output = outputFor (o .answer) }

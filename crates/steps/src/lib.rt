@@ -1,4 +1,4 @@
-// What a command leaves behind: the next session, or the next codes and session, and the answer.
+// What a command leaves behind: the next session, or the next codes, unblocking counts and session, and the answer.
 use answers::Output;
 use rules::Code;
 use rules::CodeStep;
@@ -20,6 +20,7 @@ pub struct SessionOutput {
 // After any command: what else the card has no command changes.
 pub struct StepOutput {
     pub codes: [Code; 3],
+    pub counts: [u8; 2],
     pub session: Session,
     pub output: Output,
 }
@@ -86,26 +87,28 @@ pub fn hand_out(s: Session, kind: JobKind, key: u16, le: u16, block: [u8; 256]) 
     }
 }
 
-// After a command that changes nothing but the codes; after one that changes nothing but the session.
-pub fn in_codes(s: Session, step: CodeStep) -> StepOutput
-    ensures { λ r. ⌜ r ≡ stepOutputFor (inCodes s step) ⌝ }
+// After a command that changes nothing but the codes and the unblocking counts; after one that changes nothing but the session.
+pub fn in_codes(counts: [u8; 2], s: Session, step: CodeStep) -> StepOutput
+    ensures { λ r. ⌜ r ≡ stepOutputFor (inCodes counts s step) ⌝ }
 {
     let codes = step.codes;
     let output = answers::status(step.sw);
     StepOutput {
         codes: codes,
+        counts: counts,
         session: s,
         output: output,
     }
 }
 
-pub fn in_session(codes: [Code; 3], o: SessionOutput) -> StepOutput
-    ensures { λ r. ⌜ r ≡ record { codes = codes; session = o .session; output = o .output } ⌝ }
+pub fn in_session(codes: [Code; 3], counts: [u8; 2], o: SessionOutput) -> StepOutput
+    ensures { λ r. ⌜ r ≡ record { codes = codes; counts = counts; session = o .session; output = o .output } ⌝ }
 {
     let session = o.session;
     let output = o.output;
     StepOutput {
         codes: codes,
+        counts: counts,
         session: session,
         output: output,
     }

@@ -1,4 +1,4 @@
--- A line gives at most 518 characters, of the stand-in at most 2,232: I, the hex of 1,115 bytes, and the line feed.
+-- A line gives at most 518 characters, of the stand-in at most 2,238: I, the hex of 1,118 bytes, and the line feed.
 use mathlib.Core.Path.{_≡_, refl}
 use mathlib.Core.Bool.{true, _&&_, false≢true}
 use mathlib.Core.List.{[], _∷_, _++_}

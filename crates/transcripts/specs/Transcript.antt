@@ -83,7 +83,7 @@ pub record Kept : Type 0 where
 -- The most characters that a line gives, its line feed included.
 abbrev pub mostText : Dialect → ℕ
 mostText Transcript = 518
-mostText StandIn = 2232
+mostText StandIn = 2238
 
 -- So a buffer of as many bytes for each character of an input holds all that the input gives.
 abbrev pub ShortOutput : Type 0

@@ -81,10 +81,12 @@ pub fn card() -> Card
     ensures { λ r. ⌜ r ≡ zeroCard ⌝ }
 {
     let codes = codes();
+    let counts = [0u8; 2];
     let profile = profile();
     let session = session();
     Card {
         codes: codes,
+        counts: counts,
         profile: profile,
         session: session,
     }

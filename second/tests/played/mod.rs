@@ -1,4 +1,5 @@
-//! Generated sessions of both programs, from the sample card on, with tries and marks of the codes.
+//! Generated sessions of both programs, from the sample card on, with tries and marks of the codes and
+//! the unblocking counts.
 
 use second::generate::Generator;
 use second::lines::LineProgram;
@@ -14,10 +15,14 @@ const LINES: usize = 10_000;
 /// Tries and mark of each code.
 pub type Codes = [(u8, bool); 3];
 
+#[allow(dead_code)] // not every test looks at all of it
 pub struct Step {
     pub answered: Answered,
     pub before: Codes,
     pub after: Codes,
+    /// The unblocking counts of PIN1 and PIN2.
+    pub counts_before: [u8; 2],
+    pub counts_after: [u8; 2],
 }
 
 fn codes(card: &CardState) -> Codes {
@@ -26,9 +31,10 @@ fn codes(card: &CardState) -> Codes {
 
 fn play<P: LineProgram>(mut program: P, card: fn(&P) -> &CardState, lines: impl Iterator<Item = Vec<u8>>) -> Vec<Step> {
     let step = |line: Vec<u8>| {
-        let before = codes(card(&program));
+        let (before, counts_before) = (codes(card(&program)), card(&program).unblocking_counts);
         let answer = program.line(&line);
-        Step { answered: (line, answer), before, after: codes(card(&program)) }
+        let after = card(&program);
+        Step { answered: (line, answer), before, after: codes(after), counts_before, counts_after: after.unblocking_counts }
     };
     lines.take(LINES).map(step).collect()
 }

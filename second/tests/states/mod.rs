@@ -5,7 +5,7 @@ use second::{load, sample, CardState};
 
 type Fault = fn(&mut CardState);
 
-const FAULTS: [(&str, Fault); 31] = [
+const FAULTS: [(&str, Fault); 33] = [
     ("PIN1 of three digits", |c| c.codes[PIN1].value = Bytes::of(b"123")),
     ("PIN1 of length 13", |c| c.codes[PIN1].value.length = 13),
     ("PUK of seven digits", |c| c.codes[PUK].value = Bytes::of(b"1234567")),
@@ -27,6 +27,8 @@ const FAULTS: [(&str, Fault); 31] = [
     ("an active signature key of the other class", |c| c.references[19] = 0x11),
     ("a byte behind a record", |c| c.records[7].place[1] = 0x20),
     ("a record of length 65", |c| c.records[7].length = 65),
+    ("an unblocking count of PIN1 over A5h", |c| c.unblocking_counts[0] = 0xA6),
+    ("an unblocking count of PIN2 over A5h", |c| c.unblocking_counts[1] = 0xFF),
     ("a file of the other directory", |c| c.file = Some(File::KeyReferences)),
     ("a file of the root in EEEEh", |c| (c.directory, c.file) = (Directory::Eeee, Some(File::CodeRecords))),
     ("environment 2", |c| c.environment = 2),

@@ -59,10 +59,10 @@ same-length c = search needs
 
 returns-4 : tie.Need-returns-4
 returns-4 c =
-    let a = c .before .before .before .before .before .before .before .before .before .before .before .before .before .before .args in
-    let good = ap not (sym (c .before .before .before .before .before .before .before .before .before .before .before .good2 .ensures)) ∙ c .before .before .before .before .before .before .before .before .before .before .if1 .left in
-    let room = c .before .before .before .before .before .before .before .before .before .if2 .left in
-    let job = ap not (sym (c .before .before .before .before .before .before .before .before .job-waits .ensures)) ∙ c .before .before .before .before .before .before .before .if3 .left in
+    let a = c .before .before .before .before .before .before .before .before .before .before .before .before .before .before .before .args in
+    let good = ap not (sym (c .before .before .before .before .before .before .before .before .before .before .before .before .good2 .ensures)) ∙ c .before .before .before .before .before .before .before .before .before .before .before .if1 .left in
+    let room = c .before .before .before .before .before .before .before .before .before .before .if2 .left in
+    let job = ap not (sym (c .before .before .before .before .before .before .before .before .before .job-waits .ensures)) ∙ c .before .before .before .before .before .before .before .before .if3 .left in
     c .before .before .answered .ensures
     ∙ delivery-answered (a .card) (now (a .result)) (now (a .buffer)) good room job (simp (c .before .before .before .before .in-session .ensures, c .before .before .before .before .before .deliver .ensures))
 

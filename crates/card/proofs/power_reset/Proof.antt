@@ -27,7 +27,7 @@ new-session-requires c κs = search needs
 
 returns-2 : tie.Need-returns-2
 unfolding powerReset
-returns-2 c = simp (c .before .before .closed3 .ensures, c .before .before .before .closed2 .ensures, c .before .before .before .before .closed .ensures, c .new-session .ensures, ← c .before .before .before .before .before .before .before .good2 .ensures, c .before .before .before .before .before .before .if1 .left)
+returns-2 c = simp (c .before .before .before .closed3 .ensures, c .before .before .before .before .closed2 .ensures, c .before .before .before .before .before .closed .ensures, c .new-session .ensures, ← c .before .before .before .before .before .before .before .before .good2 .ensures, c .before .before .before .before .before .before .before .if1 .left)
 
 pub power-reset-spec : {M : Type 1} → statement M
 power-reset-spec =

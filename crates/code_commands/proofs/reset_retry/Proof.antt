@@ -19,28 +19,41 @@ returns : tie.Need-returns
 unfolding resetRetry
 returns c =
     let a = c .before .before .before .before .before .before .args in
-    promised (a .codes) (a .h) (now (a .values)) _
+    promised (a .codes) (a .counts) (a .h) (now (a .values)) _
     (simp (← c .before .before .before .before .wide .ensures, ← c .before .before .before .code-of .ensures, ne-eqb _ _ (c .before .if1 .taken)) (c .code-status .ensures))
 
-unblock-by-verified-puk-requires : tie.Need-unblock-by-verified-puk-requires
-unblock-by-verified-puk-requires c κs = search needs
+count-of-requires : tie.Need-count-of-requires
+count-of-requires c κs = search needs
+
+code-status-requires-2 : tie.Need-code-status-requires-2
+code-status-requires-2 c κs = search needs
 
 returns-2 : tie.Need-returns-2
 unfolding resetRetry
 returns-2 c =
     let a = c .before .before .before .before .before .before .before .before .args in
-    promised (a .codes) (a .h) (now (a .values)) _
-    (simp (← c .before .before .before .before .before .before .wide .ensures, ← c .before .before .before .before .before .code-of .ensures, eq-eqb _ _ (c .before .before .before .if1 .left), eq-eqb _ _ (c .before .if2 .taken)) (c .unblock-by-verified-puk .ensures))
+    promised (a .codes) (a .counts) (a .h) (now (a .values)) _
+    (simp (← c .before .before .before .before .before .before .wide .ensures, ← c .before .before .before .before .before .code-of .ensures, eq-eqb _ _ (c .before .before .before .if1 .left), ← c .before .before .count-of .ensures, eq-eqb _ _ (c .before .if2 .taken)) (c .code-status2 .ensures))
 
-unblock-by-presented-puk-requires : tie.Need-unblock-by-presented-puk-requires
-unblock-by-presented-puk-requires c κs = search needs
+unblock-by-verified-puk-requires : tie.Need-unblock-by-verified-puk-requires
+unblock-by-verified-puk-requires c κs = search needs
 
 returns-3 : tie.Need-returns-3
 unfolding resetRetry
 returns-3 c =
-    let a = c .before .before .before .before .before .before .before .before .args in
-    promised (a .codes) (a .h) (now (a .values)) _
-    (simp (← c .before .before .before .before .before .before .wide .ensures, ← c .before .before .before .before .before .code-of .ensures, eq-eqb _ _ (c .before .before .before .if1 .left), ne-eqb _ _ (c .before .if2 .left)) (c .unblock-by-presented-puk .ensures))
+    let a = c .before .before .before .before .before .before .before .before .before .before .args in
+    promised (a .codes) (a .counts) (a .h) (now (a .values)) _
+    (simp (← c .before .before .before .before .before .before .before .before .wide .ensures, ← c .before .before .before .before .before .before .before .code-of .ensures, eq-eqb _ _ (c .before .before .before .before .before .if1 .left), ← c .before .before .before .before .count-of .ensures, ne-eqb _ _ (c .before .before .before .if2 .left), eq-eqb _ _ (c .before .if3 .taken)) (c .unblock-by-verified-puk .ensures))
+
+unblock-by-presented-puk-requires : tie.Need-unblock-by-presented-puk-requires
+unblock-by-presented-puk-requires c κs = search needs
+
+returns-4 : tie.Need-returns-4
+unfolding resetRetry
+returns-4 c =
+    let a = c .before .before .before .before .before .before .before .before .before .before .args in
+    promised (a .codes) (a .counts) (a .h) (now (a .values)) _
+    (simp (← c .before .before .before .before .before .before .before .before .wide .ensures, ← c .before .before .before .before .before .before .before .code-of .ensures, eq-eqb _ _ (c .before .before .before .before .before .if1 .left), ← c .before .before .before .before .count-of .ensures, ne-eqb _ _ (c .before .before .before .if2 .left), ne-eqb _ _ (c .before .if3 .left)) (c .unblock-by-presented-puk .ensures))
 
 pub reset-retry-spec : {M : Type 1} → statement M
 reset-retry-spec =
@@ -50,7 +63,10 @@ reset-retry-spec =
     code-of-requires
     code-status-requires
     returns
-    unblock-by-verified-puk-requires
+    count-of-requires
+    code-status-requires-2
     returns-2
+    unblock-by-verified-puk-requires
+    returns-3
     unblock-by-presented-puk-requires
-    returns-3)
+    returns-4)

@@ -16,6 +16,9 @@ reference-section-requires c κs = search needs
 personal-section-requires : tie.Need-personal-section-requires
 personal-section-requires c κs = search needs
 
+read-counts-requires : tie.Need-read-counts-requires
+read-counts-requires c κs = search needs
+
 end-requires : tie.Need-end-requires
 end-requires c κs = search needs
 
@@ -34,14 +37,14 @@ card-of-requires c κs = search needs
 returns : tie.Need-returns
 returns c =
     simp (c .card .ensures)
-    (faulty (now (c .before .before .before .before .before .before .before .before .before .before .before .args .image)) _ _ _ _ _ _ _ _ _ (c .before .before .before .before .before .before .before .before .before .code-section .ensures) (c .before .before .before .before .before .before .before .before .key-section .ensures) (c .before .before .before .before .before .before .reference-section .ensures)
-    (c .before .before .before .before .before .personal-section .ensures) (c .before .before .before .before .end .ensures) _ (c .before .before .fault .given .1))
+    (faulty (now (c .before .before .before .before .before .before .before .before .before .before .before .before .args .image)) _ _ _ _ _ _ _ _ _ _ _ (c .before .before .before .before .before .before .before .before .before .before .code-section .ensures) (c .before .before .before .before .before .before .before .before .before .key-section .ensures) (c .before .before .before .before .before .before .before .reference-section .ensures)
+    (c .before .before .before .before .before .before .personal-section .ensures) (c .before .before .before .before .before .read-counts .ensures) (c .before .before .before .before .end .ensures) _ (c .before .before .fault .given .1))
 
 returns-2 : tie.Need-returns-2
 returns-2 c =
     simp (c .card-of .ensures)
-    (accepted (now (c .before .before .before .before .before .before .before .before .before .before .args .image)) _ _ _ _ _ _ _ _ _ (c .before .before .before .before .before .before .before .before .code-section .ensures) (c .before .before .before .before .before .before .before .key-section .ensures) (c .before .before .before .before .before .reference-section .ensures)
-    (c .before .before .before .before .personal-section .ensures) (c .before .before .before .end .ensures) _ (c .before .enum-told .given .1))
+    (accepted (now (c .before .before .before .before .before .before .before .before .before .before .before .args .image)) _ _ _ _ _ _ _ _ _ _ _ (c .before .before .before .before .before .before .before .before .before .code-section .ensures) (c .before .before .before .before .before .before .before .before .key-section .ensures) (c .before .before .before .before .before .before .reference-section .ensures)
+    (c .before .before .before .before .before .personal-section .ensures) (c .before .before .before .before .read-counts .ensures) (c .before .before .before .end .ensures) _ (c .before .enum-told .given .1))
 
 pub load-spec : {M : Type 1} → statement M
 load-spec =
@@ -51,6 +54,7 @@ load-spec =
     key-section-requires
     reference-section-requires
     personal-section-requires
+    read-counts-requires
     end-requires
     enum-known-fault
     card-requires

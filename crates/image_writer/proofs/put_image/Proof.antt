@@ -16,12 +16,15 @@ put-references-requires c κs = search needs
 put-personal-requires : tie.Need-put-personal-requires
 put-personal-requires c κs = search needs
 
+put-counts-requires : tie.Need-put-counts-requires
+put-counts-requires c κs = search needs
+
 same-length : tie.Need-same-length
 same-length c = search needs
 
 returns : tie.Need-returns
 unfolding imageOf
-returns c = put-then (c .before .before .before .before .before .before .before .before .before .before .before .before .before .before .put-codes .ensures) (put-then (c .before .before .before .before .before .before .before .before .before .before .put-keys .ensures) (put-then (c .before .before .before .before .before .before .put-references .ensures) (c .before .before .put-personal .ensures)))
+returns c = put-then (c .before .before .before .before .before .before .before .before .before .before .before .before .before .before .before .before .before .before .put-codes .ensures) (put-then (c .before .before .before .before .before .before .before .before .before .before .before .before .before .before .put-keys .ensures) (put-then (c .before .before .before .before .before .before .before .before .before .before .put-references .ensures) (put-then (c .before .before .before .before .before .before .put-personal .ensures) (c .before .before .put-counts .ensures))))
 
 pub put-image-spec : {M : Type 1} → statement M
 put-image-spec =
@@ -31,5 +34,6 @@ put-image-spec =
     put-keys-requires
     put-references-requires
     put-personal-requires
+    put-counts-requires
     same-length
     returns)

@@ -76,9 +76,6 @@ enum-told-7 c = search needs
 reset-retry-requires : tie.Need-reset-retry-requires
 reset-retry-requires c κs = search needs
 
-in-codes-requires-3 : tie.Need-in-codes-requires-3
-in-codes-requires-3 c κs = search needs
-
 enum-told-8 : tie.Need-enum-told-8
 enum-told-8 c = search needs
 
@@ -135,7 +132,7 @@ returns-2 c = simp (c .before .before .enum-told2 .given .1, c .in-session2 .ens
 returns-3 : tie.Need-returns-3
 unfolding ownRules
 returns-3 c =
-    simp (c .before .before .enum-told3 .given .1, c .in-session3 .ensures, c .before .read-binary .ensures, c .before .before .before .before .drop-both .ensures, le-leb (c .before .before .before .before .before .before .before .before .before .before .before .before .args .h .le) 256 (c .before .before .before .before .before .before .before .before .before .before .before .before .pre .sized .le))
+    simp (c .before .before .enum-told3 .given .1, c .in-session3 .ensures, c .before .read-binary .ensures, c .before .before .before .before .drop-both .ensures, le-leb (c .before .before .before .before .before .before .before .before .before .before .before .before .before .args .h .le) 256 (c .before .before .before .before .before .before .before .before .before .before .before .before .before .pre .sized .le))
 
 returns-4 : tie.Need-returns-4
 unfolding ownRules
@@ -151,7 +148,7 @@ returns-6 c = simp (c .before .before .enum-told6 .given .1, c .in-codes2 .ensur
 
 returns-7 : tie.Need-returns-7
 unfolding ownRules
-returns-7 c = simp (c .before .before .enum-told7 .given .1, c .in-codes3 .ensures, c .before .reset-retry .ensures .0, c .before .before .before .before .drop-both .ensures)
+returns-7 c = simp (c .before .enum-told7 .given .1, c .reset-retry .ensures, c .before .before .before .drop-both .ensures)
 
 returns-8 : tie.Need-returns-8
 unfolding ownRules
@@ -164,9 +161,9 @@ returns-9 c = simp (c .before .before .enum-told9 .given .1, c .in-session6 .ens
 returns-10 : tie.Need-returns-10
 unfolding ownRules
 returns-10 c =
-    let a = c .before .before .before .before .before .before .before .before .before .before .before .before .args in
-    let within : a .h .lc ≤ 245 = authenticate-length (a .h) (simp (c .before .before .enum-told10 .given .1) at (c .before .before .before .before .before .before .before .before .before .before .before .before .pre .lengths)) in
-    let whole : length (now (a .d)) ≤ 245 = omega (arith, c .before .before .before .before .before .before .before .before .before .before .before .before .pre .sized .fits) in
+    let a = c .before .before .before .before .before .before .before .before .before .before .before .before .before .args in
+    let within : a .h .lc ≤ 245 = authenticate-length (a .h) (simp (c .before .before .enum-told10 .given .1) at (c .before .before .before .before .before .before .before .before .before .before .before .before .before .pre .lengths)) in
+    let whole : length (now (a .d)) ≤ 245 = omega (arith, c .before .before .before .before .before .before .before .before .before .before .before .before .before .pre .sized .fits) in
     simp (c .before .before .enum-told10 .given .1, c .in-session7 .ensures, c .before .internal-authenticate .ensures, c .before .before .before .before .drop-both .ensures, take-all 245 (now (a .d)) whole)
 
 returns-11 : tie.Need-returns-11
@@ -203,7 +200,6 @@ own-rules-spec =
     in-codes-requires-2
     enum-told-7
     reset-retry-requires
-    in-codes-requires-3
     enum-told-8
     set-environment-requires
     in-session-requires-5

@@ -16,7 +16,7 @@ turned-down-requires c κs = search needs
 returns : tie.Need-returns
 returns c =
     let s = c .before .before .before .before .args in
-    c .turned-down .ensures ∙ ap stepOutputFor (no-digest (s .codes) (s .references) (s .s) (s .h) (now (s .d)) (c .before .before .is-digest .ensures) (c .before .if1 .taken))
+    c .turned-down .ensures ∙ ap stepOutputFor (no-digest (s .codes) (s .counts) (s .references) (s .s) (s .h) (now (s .d)) (c .before .before .is-digest .ensures) (c .before .if1 .taken))
 
 turned-down-requires-2 : tie.Need-turned-down-requires-2
 turned-down-requires-2 c κs = search needs
@@ -24,7 +24,7 @@ turned-down-requires-2 c κs = search needs
 returns-2 : tie.Need-returns-2
 returns-2 c =
     let s = c .before .before .before .before .before .before .args in
-    c .turned-down2 .ensures ∙ ap stepOutputFor (sign-elsewhere (s .codes) (s .references) (s .s) (s .h) (now (s .d)) (c .before .before .before .before .is-digest .ensures) (c .before .before .before .if1 .left) (c .before .if2 .taken))
+    c .turned-down2 .ensures ∙ ap stepOutputFor (sign-elsewhere (s .codes) (s .counts) (s .references) (s .s) (s .h) (now (s .d)) (c .before .before .before .before .is-digest .ensures) (c .before .before .before .if1 .left) (c .before .if2 .taken))
 
 code-of-requires : tie.Need-code-of-requires
 code-of-requires c κs = search needs
@@ -35,7 +35,7 @@ turned-down-requires-3 c κs = search needs
 returns-3 : tie.Need-returns-3
 returns-3 c =
     let s = c .before .before .before .before .before .before .before .before .before .args in
-    c .turned-down3 .ensures ∙ ap stepOutputFor (sign-closed (s .codes) (s .references) (s .s) (s .h) (now (s .d)) (c .before .before .before .before .before .before .before .is-digest .ensures) (c .before .before .before .before .before .before .if1 .left) (c .before .before .before .before .if2 .left) (c .before .before .before .code-of .ensures) (c .before .if3 .taken))
+    c .turned-down3 .ensures ∙ ap stepOutputFor (sign-closed (s .codes) (s .counts) (s .references) (s .s) (s .h) (now (s .d)) (c .before .before .before .before .before .before .before .is-digest .ensures) (c .before .before .before .before .before .before .if1 .left) (c .before .before .before .before .if2 .left) (c .before .before .before .code-of .ensures) (c .before .if3 .taken))
 
 key-for-requires : tie.Need-key-for-requires
 key-for-requires c κs = search needs
@@ -57,7 +57,7 @@ returns-4 c =
     let s = c .before .before .before .before .before .before .before .before .before .before .before .before .before .args in
     c .in-session .ensures
     ∙ with-codes _ (c .before .closed .ensures) (c .before .before .hand-out .ensures)
-    ∙ ap stepOutputFor (sign-job (s .codes) (s .references) (s .s) (s .h) (now (s .d)) (c .before .before .before .before .before .before .before .before .before .before .before .is-digest .ensures) (c .before .before .before .before .before .before .before .before .before .before .if1 .left) (c .before .before .before .before .before .before .before .before .if2 .left) (c .before .before .before .before .before .before .before .code-of .ensures) (c .before .before .before .before .before .if3 .left) (c .before .before .before .before .key-for .ensures) (c .before .before .before .padded-block .ensures))
+    ∙ ap stepOutputFor (sign-job (s .codes) (s .counts) (s .references) (s .s) (s .h) (now (s .d)) (c .before .before .before .before .before .before .before .before .before .before .before .is-digest .ensures) (c .before .before .before .before .before .before .before .before .before .before .if1 .left) (c .before .before .before .before .before .before .before .before .if2 .left) (c .before .before .before .before .before .before .before .code-of .ensures) (c .before .before .before .before .before .if3 .left) (c .before .before .before .before .key-for .ensures) (c .before .before .before .padded-block .ensures))
 
 pub sign-spec : {M : Type 1} → statement M
 sign-spec =

@@ -1,4 +1,5 @@
 use Rattle.rules.specs.Image.{zeroCard}
+use Rattle.octets.proofs.Pasting.{zeros}
 use borrow.Author.Needs.{needs}
 use Rattle.zero_state.proofs.card.Statement.{statement}
 use Rattle.zero_state.proofs.card.Tie as tie
@@ -14,7 +15,7 @@ session-requires c κs = search needs
 
 returns : tie.Need-returns
 unfolding zeroCard
-returns c = simp (c .before .before .codes .ensures, c .before .profile .ensures, c .session .ensures)
+returns c = simp (zeros 2, c .before .before .codes .ensures, c .before .profile .ensures, c .session .ensures)
 
 pub card-spec : {M : Type 1} → statement M
 card-spec =
