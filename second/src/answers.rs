@@ -27,7 +27,7 @@ const IMAGE_LENGTHS: [(usize, usize); 4] = [
     (1118, 1118),
 ];
 
-const LETTERS: &[u8; 9] = b"PCDWLASBI";
+const LETTERS: &[u8; 8] = b"PCDLASBI";
 
 /// Every class that lines can reach.
 pub fn wanted() -> Vec<String> {
@@ -35,8 +35,7 @@ pub fn wanted() -> Vec<String> {
         ("P", "P H1 ?"),
         ("C", "9000 61xx 6282 63C0 63C1 63C2 63C3 6700 6884 6981 6982 6983 6985 6986 6A80 6A82 6A83 6A86 6A88 6B00 6D00 6E00"),
         ("C", "H1 H2 H3 H4 ?"),
-        ("D", "9000 6100 61xx 6A80 H1 H2 H5 H6 ?"),
-        ("W", "6400 H1 H2 H5 ?"),
+        ("D", "9000 6100 61xx 6400 6A80 H1 H2 H5 ?"),
         ("L", "L F21 F22 F23 F24 F25 F26 F27 F28 ?"),
         ("A", "A ?"),
         ("S", "S ?"),
@@ -81,6 +80,6 @@ fn class_of_length(name: &str, ranges: &[(usize, usize)], text: &str) -> String 
     length_class(name, range.unwrap_or(&(length, length)))
 }
 
-pub(crate) fn word_class(word: &str) -> &str {
+fn word_class(word: &str) -> &str {
     if word.starts_with("61") && word != "6100" { "61xx" } else { word }
 }

@@ -18,7 +18,7 @@ pub enum Outcome {
     Response(usize),
     /// 256 bytes for the key host are in the buffer.
     Job { kind: u8, key: u16 },
-    /// Edge refusal 1 to 6; state and buffer stay.
+    /// Edge refusal 1 to 5; state and buffer stay.
     Refused(u8),
 }
 
@@ -52,18 +52,20 @@ pub fn command(card: &mut CardState, apdu: &[u8], certificates: Certificates, an
     answer_with(reply, answer)
 }
 
-/// Wish 7: "A delivery takes exactly 256 bytes; another length is refused and the job keeps waiting."
-/// "edge 6, wrong result length, after 5".
 pub fn delivery(card: &mut CardState, result: &[u8], answer: &mut [u8]) -> Outcome {
-    let job = match waiting_job(card, answer) {
-        Ok(job) => job,
-        Err(refusal) => return Outcome::Refused(refusal),
-    };
-    if result.len() != padding::BLOCK {
-        return Outcome::Refused(6);
+    if !card.is_good() {
+        return Outcome::Refused(1);
     }
+    if answer.len() < SMALLEST_BUFFER {
+        return Outcome::Refused(2);
+    }
+    let Some(job) = card.job else {
+        return Outcome::Refused(5);
+    };
     card.job = None; // "Delivery ends the job."
-    let reply = if job.kind == DECIPHER {
+    let reply = if result.len() != padding::BLOCK {
+        Err(status::BAD_RESULT)
+    } else if job.kind == DECIPHER {
         match padding::strip(result) {
             0 => Err(status::BAD_DATA),
             padding::BLOCK => done(), // "9000 alone if empty"
@@ -73,26 +75,6 @@ pub fn delivery(card: &mut CardState, result: &[u8], answer: &mut [u8]) -> Outco
         by_le(card, result, job.le)
     };
     answer_with(reply, answer)
-}
-
-/// Wish 7: "A withdrawal ends the job with 6400." No code is touched: "PIN2 stays spent either way".
-pub fn withdrawal(card: &mut CardState, answer: &mut [u8]) -> Outcome {
-    if let Err(refusal) = waiting_job(card, answer) {
-        return Outcome::Refused(refusal);
-    }
-    card.job = None;
-    answer_with(Err(status::WITHDRAWN), answer)
-}
-
-/// The job that a delivery or a withdrawal ends, or edge refusal "1, 2 and 5 in that order".
-fn waiting_job(card: &CardState, answer: &[u8]) -> Result<Job, u8> {
-    if !card.is_good() {
-        return Err(1);
-    }
-    if answer.len() < SMALLEST_BUFFER {
-        return Err(2);
-    }
-    card.job.ok_or(5)
 }
 
 /// Answers 0, or edge refusal 1.

@@ -3,7 +3,6 @@
 
 use crate::generate_changing::first_case;
 use crate::generate_digests::first_near_digest;
-use crate::generate_ending::first_ending;
 use crate::state::{shortest_code, DECIPHER, LONGEST_CODE, PIN1, PIN2, PUK};
 use crate::{hex, padding, CardState};
 use std::collections::VecDeque;
@@ -76,8 +75,6 @@ pub struct Generator<S> {
     pub(crate) next_case: usize,
     /// Goes through the cases of `generate_digests`.
     pub(crate) next_near_digest: usize,
-    /// Goes through the cases of `generate_ending`.
-    pub(crate) next_ending: usize,
     pending: VecDeque<Vec<u8>>,
 }
 
@@ -89,7 +86,6 @@ impl<S: Played> Generator<S> {
             made: 0,
             next_case: first_case(seed),
             next_near_digest: first_near_digest(seed),
-            next_ending: first_ending(seed),
             pending: VecDeque::new(),
         }
     }
@@ -151,7 +147,7 @@ impl<S: Played> Generator<S> {
 
     /// A single line that may drop a held answer or a chain, or do nothing.
     pub(crate) fn single_interruption(&mut self) {
-        match self.random.below(9) {
+        match self.random.below(8) {
             0 => self.line(b"P".to_vec()),
             1 => self.malformed(),
             2 => self.call(b'D', &[]),
@@ -162,8 +158,7 @@ impl<S: Played> Generator<S> {
                 let code = self.any_code();
                 self.ask_about(code);
             }
-            7 => self.call(b'C', &[0x00, 0x22, 0xF3, 0x02]),
-            _ => self.withdraw(),
+            _ => self.call(b'C', &[0x00, 0x22, 0xF3, 0x02]),
         }
     }
 
@@ -467,51 +462,37 @@ impl<S: Played> Generator<S> {
     /// A result of the key host; sometimes something else comes first.
     pub(crate) fn deliver(&mut self) {
         let Some(job) = self.session.card().job else {
-            match self.random.below(100) {
-                0..=4 => self.call(b'D', &[0; 256]),
-                5 | 6 => self.withdraw(),
-                _ => {}
+            if self.random.percent(5) {
+                self.call(b'D', &[0; 256]);
             }
             return;
         };
         S::before_delivery(self);
-        let result = if job.kind == DECIPHER { self.deciphered() } else { self.random.bytes(256) };
-        if self.random.percent(12) {
-            self.deliver_wrong_lengths(&result);
+        let mut result = self.random.bytes(256);
+        if job.kind == DECIPHER {
+            result = self.deciphered();
         }
-        if self.random.percent(8) {
-            self.withdraw();
-        } else {
-            self.call(b'D', &result);
+        match self.random.below(20) {
+            0 => result.truncate(255),
+            1 => result.push(0),
+            2 => result.truncate(self.random.below(256)),
+            _ => {}
         }
+        self.call(b'D', &result);
         if self.random.percent(70) {
             self.get_responses();
         }
     }
 
-    pub(crate) fn withdraw(&mut self) {
-        self.line(b"W".to_vec());
-    }
-
-    /// One to three results of another length, with the bytes of this one as far as they go; now and then
-    /// a command comes after one.
-    fn deliver_wrong_lengths(&mut self, result: &[u8]) {
-        for _ in 0..self.random.pick(&[1, 1, 2, 3]) {
-            let any = self.random.between(257, 511);
-            let few = self.random.below(256);
-            let length = self.random.pick(&[0, 1, 255, 255, 257, 257, few, any]);
-            let mut wrong = result.to_vec();
-            wrong.resize(length, 0);
-            self.call(b'D', &wrong);
-            if self.random.percent(20) {
-                self.ask_about(PIN2);
-            }
-        }
-    }
-
     fn deciphered(&mut self) -> Vec<u8> {
-        let mut block = self.message_of(&[0, 0, 1, 16, 32, 128, 244, 245, 245, 246, 247]);
         let r = &mut self.random;
+        let n = r.pick(&[0, 0, 1, 16, 32, 128, 244, 245, 245, 246, 247]);
+        let mut block = vec![0x00, 0x02];
+        for _ in 0..253 - n {
+            block.push(r.byte() | 1);
+        }
+        block.push(0x00);
+        block.extend(r.bytes(n));
         if r.percent(25) {
             match r.below(4) {
                 0 => block[0] = 0x01,
@@ -520,19 +501,6 @@ impl<S: Played> Generator<S> {
                 _ => block.iter_mut().for_each(|b| *b |= 2),
             }
         }
-        block
-    }
-
-    /// A block with a message of one of these lengths; over 245 there is too little before it.
-    pub(crate) fn message_of(&mut self, lengths: &[usize]) -> Vec<u8> {
-        let r = &mut self.random;
-        let n = r.pick(lengths);
-        let mut block = vec![0x00, 0x02];
-        for _ in 0..253 - n {
-            block.push(r.byte() | 1);
-        }
-        block.push(0x00);
-        block.extend(r.bytes(n));
         debug_assert!(block.len() == padding::BLOCK);
         block
     }

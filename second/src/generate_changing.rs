@@ -3,7 +3,7 @@
 //! permits. The lines of a case are not damaged, and no others come between them.
 
 use crate::generate::{Generator, Played};
-use crate::state::{AUTHENTICATE, DECIPHER, MAX_TRIES, PIN1, PIN2, PUK, SIGN};
+use crate::state::{MAX_TRIES, PIN1, PIN2, PUK};
 
 /// The cases that two seeds next to each other begin with lie so far apart.
 const APART: usize = 40;
@@ -207,24 +207,26 @@ impl<S: Played> Generator<S> {
                 self.ask_alone(code);
             }
             Look::Unblock(pin) => self.send_alone([0x00, 0x2C, 0x03, pin as u8], &[], None),
-            Look::Authenticate => self.ask_for_job(AUTHENTICATE, Some(0)),
-            Look::Decipher => self.ask_for_job(DECIPHER, Some(0)),
-            Look::Sign => self.ask_for_job(SIGN, Some(0)),
+            Look::Authenticate => self.send_alone([0x00, 0x88, 0x00, 0x00], &[0x5A], Some(0)),
+            Look::Decipher => {
+                let first = self.random.between(2, 255);
+                self.send_alone([0x10, 0x2A, 0x80, 0x86], &vec![0; first], None);
+                self.send_alone([0x00, 0x2A, 0x80, 0x86], &vec![0; 257 - first], Some(0));
+            }
+            Look::Sign => {
+                let digest = self.digest();
+                self.send_alone([0x00, 0x2A, 0x9E, 0x9A], &digest, Some(0));
+            }
         }
     }
 
-    /// After a job: its result or its withdrawal, and then another look, sometimes with the deed done
-    /// once more.
+    /// After a job: its result, and then another look, sometimes with the deed done once more.
     fn look_again(&mut self, case: &Case) {
         if self.session.card().job.is_none() {
             return;
         }
-        if self.random.percent(45) {
-            self.withdraw();
-        } else {
-            let result = self.random.bytes(256);
-            self.call(b'D', &result);
-        }
+        let result = self.random.bytes(256);
+        self.call(b'D', &result);
         match self.random.below(3) {
             0 => self.ask_alone(case.code),
             1 => self.look(case.look),
@@ -247,7 +249,7 @@ impl<S: Played> Generator<S> {
     }
 
     /// A PIN, with the right value of PUK.
-    pub(crate) fn unblock_if_blocked(&mut self, code: usize) {
+    fn unblock_if_blocked(&mut self, code: usize) {
         if code != PUK && self.session.card().codes[code].tries == 0 {
             self.act(Deed::Unblock(code, Some(Values::Allowed)));
         }

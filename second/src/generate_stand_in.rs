@@ -2,7 +2,6 @@
 //! and buffers of every kind, with the commands of `generate`.
 
 use crate::generate::{Generator, Played, Random};
-use crate::generate_ending::{cases, cases_at_the_edge, other_withdrawal_line};
 use crate::generate_unblocking::first_unblocking;
 use crate::images::{self, Fault, Parts};
 use crate::lines::LineProgram;
@@ -62,9 +61,8 @@ impl Played for PlayedStandIn {
     }
 
     fn malformed(r: &mut Random) -> Vec<u8> {
-        match r.below(12) {
+        match r.below(11) {
             0 | 1 => spoiled_hex(r),
-            11 => other_withdrawal_line(r),
             2 => other_buffer(r),
             3 | 4 => too_long(r),
             5 => {
@@ -72,7 +70,7 @@ impl Played for PlayedStandIn {
                 r.bytes(n).into_iter().filter(|byte| !b"\nL".contains(byte)).collect() // L alone would load no card
             }
             6 => {
-                let letter = r.pick(b"EFGHJKMNOQRTUVXYZlascdbpiw0123456789?.- ");
+                let letter = r.pick(b"EFGHJKMNOQRTUVWXYZlascdbpi0123456789?.- ");
                 let n = r.below(4);
                 line_of(letter, &r.bytes(n))
             }
@@ -238,9 +236,8 @@ impl Generator<PlayedStandIn> {
     }
 
     fn line_for_refused_card(&mut self) {
-        match self.random.below(15) {
+        match self.random.below(14) {
             0 | 1 => self.line(b"P".to_vec()),
-            14 => self.withdraw(),
             2..=5 => self.plain_command(),
             6 | 7 => self.plain_delivery(),
             8 | 11 => self.write_by_size(),
@@ -259,8 +256,8 @@ impl Generator<PlayedStandIn> {
     }
 
     fn step(&mut self) {
-        match self.random.below(125) {
-            0..=3 | 122 | 123 => self.malformed(),
+        match self.random.below(115) {
+            0..=3 => self.malformed(),
             4 => self.line(b"P".to_vec()),
             5..=7 => self.noise(),
             8..=11 => self.select(),
@@ -298,27 +295,11 @@ impl Generator<PlayedStandIn> {
             96 => self.malformed_and_looked_for(),
             97 | 98 => self.longest_lines(),
             99 => self.browse_in_blocks(),
-            100 | 124 => self.lend_and_read_in_blocks(),
+            100 => self.lend_and_read_in_blocks(),
             101 => self.write(),
             102 => self.write_by_size(),
             103 | 104 if self.near_its_end() => self.write_and_load(),
-            115..=120 => self.end_job_somewhere(),
-            121 => self.withdraw(),
             _ => self.plain_delivery(),
-        }
-    }
-
-    /// Also with cards, certificates and buffers that the transcript program has not. Where the case has
-    /// taken the card away, the session ends.
-    fn end_job_somewhere(&mut self) {
-        let spares_puk = std::mem::replace(&mut self.session.spares_puk, false);
-        self.make_room();
-        self.end_job(&[cases(), cases_at_the_edge()].concat());
-        self.make_usable();
-        if self.session.card().is_good() {
-            self.session.spares_puk = spares_puk;
-        } else {
-            self.session.session_ends = self.made;
         }
     }
 
@@ -510,10 +491,9 @@ impl Generator<PlayedStandIn> {
 
     fn plain_calls(&mut self) {
         for _ in 0..self.random.between(1, 3) {
-            match self.random.below(12) {
+            match self.random.below(11) {
                 0..=5 => self.plain_command(),
                 6..=8 => self.plain_delivery(),
-                11 => self.withdraw(),
                 9 => self.write(),
                 _ => self.line(b"P".to_vec()),
             }
@@ -548,7 +528,7 @@ impl Generator<PlayedStandIn> {
 
     fn plain_delivery(&mut self) {
         let any = self.random.below(300);
-        let n = self.random.pick(&[0, 255, 256, 256, 256, 257, 512, any]);
+        let n = self.random.pick(&[0, 255, 256, 256, 257, any]);
         let result = self.random.bytes(n);
         self.call(b'D', &result);
     }
@@ -599,8 +579,8 @@ fn line_of_length(letter: u8, bytes: &[u8], length: usize) -> Vec<u8> {
     line
 }
 
-const OTHER_LINES: [&[u8]; 25] = [
-    b"", b" ", b"\r", b"?", b"p", b"P ", b" P", b"P\r", b"PP", b"P0", b"P00", b" W", b"DW", b"V35", b"N", b"R9000", b"J1 1100", b"H1", b"F21", b"LX",
+const OTHER_LINES: [&[u8]; 24] = [
+    b"", b" ", b"\r", b"?", b"p", b"P ", b" P", b"P\r", b"PP", b"P0", b"P00", b"W", b"V35", b"N", b"R9000", b"J1 1100", b"H1", b"F21", b"LX",
     b"A-", b"S 00", b"C 00A4000C", b"D0", b"C00A4000",
 ];
 
@@ -659,7 +639,7 @@ fn other_image_line(r: &mut Random) -> Vec<u8> {
 /// Mostly over 4,096 characters, or of that length exactly. C and D also near
 /// 1,024, which is no limit here.
 fn too_long(r: &mut Random) -> Vec<u8> {
-    let letter = r.pick(b"LLASCDBPIWX");
+    let letter = r.pick(b"LLASCDBPIX");
     let over = r.pick(&[4096, 4097, 4097, 4098, 4099, 5001, 8193]);
     let far_over = r.pick(&[over, over, over, 65_535, 65_536, 65_537, 70_001]);
     let length = match letter {

@@ -2,7 +2,6 @@
 
 use crate::card::LONGEST_CERTIFICATE;
 use crate::generate::{Generator, Played, Random};
-use crate::generate_ending::{cases, other_withdrawal_line};
 use crate::lines::LineProgram;
 use crate::state::{PIN1, PIN2, PUK};
 use crate::transcript::Transcript;
@@ -75,7 +74,7 @@ impl Played for PlayedTranscript {
     }
 
     fn malformed(r: &mut Random) -> Vec<u8> {
-        match r.below(16) {
+        match r.below(14) {
             0 => vec![],
             1 => b"p".to_vec(),
             2 => b"P ".to_vec(),
@@ -86,13 +85,12 @@ impl Played for PlayedTranscript {
             7 => b"c00A4000C".to_vec(),
             8 => format!("D{}", "0".repeat(r.pick(&[511, 513, 1023]))).into_bytes(),
             9 => format!("{}{}", r.pick(&["C", "D"]), "0".repeat(r.pick(&[1022, 1024, 1026, 5000, 70_000]))).into_bytes(),
-            10 => r.pick(&["P", "W"]).repeat(r.pick(&[2, 1024, 1025])).into_bytes(),
+            10 => "P".repeat(r.pick(&[2, 1024, 1025])).into_bytes(),
             11 => {
                 let n = r.below(40);
                 r.bytes(n).into_iter().filter(|b| *b != b'\n').collect()
             }
             12 => b"C0G".to_vec(),
-            13 | 14 => other_withdrawal_line(r),
             _ => {
                 let letter = r.pick(b"ABEHJRX? ");
                 vec![letter, b'0', b'0']
@@ -109,7 +107,7 @@ impl Played for PlayedTranscript {
     }
 
     fn scenario(generator: &mut Generator<Self>) {
-        match generator.random.below(116) {
+        match generator.random.below(109) {
             0..=2 => generator.malformed(),
             3..=4 => generator.line(b"P".to_vec()),
             5..=8 => generator.noise(),
@@ -137,9 +135,7 @@ impl Played for PlayedTranscript {
             85..=91 => generator.sign(),
             92..=98 => generator.decipher(),
             99 | 100 => generator.browse_in_blocks(),
-            101..=110 => generator.change_or_unblock(),
-            111..=114 => generator.end_job(&cases()),
-            _ if generator.random.percent(30) => generator.withdraw(),
+            101..=107 => generator.change_or_unblock(),
             _ => {
                 let n = generator.random.below(300);
                 let result = generator.random.bytes(n);

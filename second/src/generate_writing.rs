@@ -151,10 +151,8 @@ impl Generator<PlayedStandIn> {
     /// Lines that would be answered otherwise if something of the session had stayed; what another
     /// line would drop is looked for first.
     fn look_for_session(&mut self, before: &CardState) {
-        match before.job {
-            Some(_) if self.random.percent(50) => self.withdraw(),
-            Some(_) => self.call(b'D', &[0; 256]),
-            None => {}
+        if before.job.is_some() {
+            self.call(b'D', &[0; 256]);
         }
         if before.held.length > 0 {
             self.call(b'C', &[0x00, 0xC0, 0x00, 0x00, 0x00]);

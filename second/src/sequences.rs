@@ -32,11 +32,7 @@ pub fn reached(answered: &[Answered]) -> BTreeSet<String> {
 /// Every sequence of two to four lines that follow each other, by what each line does: as
 /// "CHANGE PIN2: 9000, SIGN: J2".
 pub fn sequences(answered: &[Answered]) -> BTreeSet<String> {
-    windows(answered.iter().map(|(line, answer)| name(line, answer)).collect())
-}
-
-/// Two to four names that follow each other, joined; None parts what is before it from what is after.
-pub(crate) fn windows(names: Vec<Option<String>>) -> BTreeSet<String> {
+    let names: Vec<Option<String>> = answered.iter().map(|(line, answer)| name(line, answer)).collect();
     let mut sequences = BTreeSet::new();
     for length in 2..=LONGEST {
         for window in names.windows(length) {
@@ -48,13 +44,12 @@ pub(crate) fn windows(names: Vec<Option<String>>) -> BTreeSet<String> {
 }
 
 /// What a line does and how it is answered; None for a line that no sequence has.
-pub(crate) fn name(line: &[u8], answer: &str) -> Option<String> {
+fn name(line: &[u8], answer: &str) -> Option<String> {
     match line {
         b"P" if answer == "P" => Some("P".to_string()),
         b"I" if answer.starts_with('I') => Some("I".to_string()),
         [b'L', ..] if answer == "L" => Some("L".to_string()),
         [b'D', ..] if answer.starts_with('R') => Some("delivery".to_string()),
-        b"W" if answer.starts_with('R') => Some("withdrawal".to_string()),
         _ => Some(format!("{}: {}", command_name(line)?, word(answer))),
     }
 }
@@ -176,14 +171,11 @@ fn uses_after_unblocking() -> Vec<String> {
 }
 
 /// Each CHANGE of PIN2 is good for one signature; PIN1 stays open.
-fn job_sequences() -> [&'static str; 7] {
+fn job_sequences() -> [&'static str; 4] {
     [
         "CHANGE PIN2: 9000, SIGN: J2, delivery, SIGN: 6982",
         "CHANGE PIN2: 9000, SIGN: J2, delivery, ask PIN2: 63C3",
         "SIGN: J2, delivery, CHANGE PIN2: 9000, SIGN: J2",
         "CHANGE PIN1: 9000, AUTHENTICATE: J1, delivery, AUTHENTICATE: J1",
-        "CHANGE PIN2: 9000, SIGN: J2, withdrawal, SIGN: 6982",
-        "CHANGE PIN2: 9000, SIGN: J2, withdrawal, ask PIN2: 63C3",
-        "CHANGE PIN1: 9000, AUTHENTICATE: J1, withdrawal, AUTHENTICATE: J1",
     ]
 }

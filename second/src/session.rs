@@ -1,8 +1,8 @@
-//! A card with what its calls are lent, and the lines P, C, D and W, which the
+//! A card with what its calls are lent, and the lines P, C and D, which the
 //! transcript program and the stand-in program have in common.
 
 use crate::state::File;
-use crate::{command, delivery, hex, power_reset, withdrawal, CardState, Certificates, Outcome};
+use crate::{command, delivery, hex, power_reset, CardState, Certificates, Outcome};
 
 #[derive(Clone)]
 pub struct Session {
@@ -23,13 +23,12 @@ pub enum Answer<'a> {
 
 impl Session {
     /// "P is a reset, C or D and upper-case hex of whole bytes, perhaps none, a
-    /// command or delivery." Wish 7: "the line W for a withdrawal". None for any other line.
+    /// command or delivery." None for any other line.
     pub fn call(&mut self, line: &[u8]) -> Option<Answer<'_>> {
         let outcome = match line.split_first()? {
             (b'P', []) => return Some(self.reset()),
             (b'C', text) => self.command(&hex::decode(text)?),
             (b'D', text) => delivery(&mut self.card, &hex::decode(text)?, &mut self.buffer),
-            (b'W', []) => withdrawal(&mut self.card, &mut self.buffer),
             _ => return None,
         };
         Some(match outcome {

@@ -23,19 +23,10 @@ fn p1_three_wrong_pin1() {
     check(&[(wrong, "R63C2"), (wrong, "R63C1"), (wrong, "R63C0"), ("C002000010431323334", "R6983")]);
 }
 
-/// "P2's delivery has 256 bytes" (02, wish 7).
 #[test]
 fn p2_sign_twice() {
     let (sign, result) = (sign_line(), result_line());
     check(&[("C00200002053132333435", "R9000"), (&sign, "J2 0100"), (&result, "R6100"), (&sign, "R6982")]);
-}
-
-#[test]
-fn p2_with_a_result_of_no_bytes() {
-    let sign = sign_line();
-    check(&[
-        ("C00200002053132333435", "R9000"), (&sign, "J2 0100"), ("D", "H6"), (&sign, "H4"), ("W", "R6400"), (&sign, "R6982"),
-    ]);
 }
 
 #[test]
@@ -129,7 +120,7 @@ fn printed_transcript() {
 fn other_lines() {
     let fits = format!("C{}", "00".repeat(511));
     let over = format!("C{}", "00".repeat(512));
-    check(&[("", "?"), ("p", "?"), ("P\r", "?"), ("C0", "?"), ("C0a", "?"), ("D", "H5"), ("W", "H5"), (&fits, "R6700"), (&over, "?")]);
+    check(&[("", "?"), ("p", "?"), ("P\r", "?"), ("C0", "?"), ("C0a", "?"), ("D", "H5"), (&fits, "R6700"), (&over, "?")]);
 }
 
 #[test]
@@ -151,7 +142,7 @@ fn decipher_delivery_and_held_answer() {
         ("?", "?"), ("D", "H5"), ("C00C0000101", "R6A86"), ("C00C0000001", "R6985"),
         (&first, "R9000"), ("C002A808602000000", "J3 1100"), (&result, &whole),
         (&first, "R9000"), ("C002A8086020000", "J3 1100"), (&empty, "R9000"),
-        (&first, "R9000"), ("C002A8086020000", "J3 1100"), ("D00", "H6"), ("W", "R6400"), ("D00", "H5"),
+        (&first, "R9000"), ("C002A8086020000", "J3 1100"), ("D00", "R6400"), ("D00", "H5"),
         (&first, "R9000"), ("C002A8086020000", "J3 1100"), ("P", "P"), ("D00", "H5"),
     ]);
 }

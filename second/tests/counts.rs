@@ -1,7 +1,7 @@
 //! Demand 3's numbers over generated sessions, counted from the calls' bytes and their answers, with
 //! document 02's wish 4: its "last sentence then counts right VERIFY and successful CHANGE of PIN2
-//! together"; wish 6: "unblockings of a PIN from load never outnumber its count at load unless that is
-//! A5h"; and wish 7: "Demand 3 admits withdrawals in its sequences".
+//! together"; and wish 6: "unblockings of a PIN from load never outnumber its count at load unless that
+//! is A5h".
 
 mod played;
 
@@ -21,9 +21,6 @@ struct Counts {
     right_verifies_of_pin2: usize,
     changes_of_pin2: usize,
     signatures: usize,
-    /// Of jobs of kind 2; they are none of demand 3's numbers.
-    withdrawn_signatures: usize,
-    signature_waits: bool,
 }
 
 impl Counts {
@@ -35,7 +32,6 @@ impl Counts {
         if line.starts_with(b"C") && answer.starts_with("J2") {
             self.signatures += 1;
         }
-        self.add_withdrawal(line, answer);
         match code_command(line) {
             Some(CodeCommand::Verify { code } | CodeCommand::Change { code }) => self.add_presentation(code, answer),
             Some(CodeCommand::UnblockByPuk { .. }) => self.add_presentation(PUK, answer),
@@ -44,12 +40,6 @@ impl Counts {
         if answer == "R9000" {
             self.add_success(code_command(line));
         }
-    }
-
-    fn add_withdrawal(&mut self, line: &[u8], answer: &str) {
-        self.withdrawn_signatures += usize::from(self.signature_waits && line == b"W" && answer == "R6400");
-        let ended = answer == "P" || !line.starts_with(b"C") && answer.starts_with('R');
-        self.signature_waits = answer.starts_with("J2") || self.signature_waits && !ended;
     }
 
     /// "A wrong answer is 63Cx, a restoration 9000"
@@ -131,17 +121,6 @@ fn both_kinds_of_presentation_are_needed() {
     assert!(some(|counts| counts.signatures > counts.right_verifies_of_pin2));
     assert!(some(|counts| counts.signatures > counts.changes_of_pin2));
     assert!(some(|counts| counts.changes_of_pin2 > 0 && counts.signatures == counts.presentations_of_pin2()));
-}
-
-/// A signature that was withdrawn has spent its presentation: none is given back, and the bound is met
-/// where withdrawals are among the calls, also where every signature was withdrawn.
-#[test]
-fn withdrawn_signatures_count_as_handed_out() {
-    assert!((1..=SEEDS).flat_map(count_transcript).any(|counts| counts.withdrawn_signatures > 10));
-    let counts: Vec<Counts> = (1..=SEEDS).flat_map(count_stand_in).collect();
-    let met = |withdrawn: fn(&Counts) -> bool| counts.iter().any(|counts| withdrawn(counts) && counts.signatures == counts.presentations_of_pin2());
-    assert!(met(|counts| counts.withdrawn_signatures > 0 && counts.signatures > counts.withdrawn_signatures));
-    assert!(met(|counts| counts.withdrawn_signatures > 0 && counts.signatures == counts.withdrawn_signatures));
 }
 
 #[test]

@@ -3,7 +3,7 @@
 mod states;
 
 use second::state::*;
-use second::{command, delivery, load, power_reset, sample, withdrawal, write_image, CardState, Certificates, Outcome};
+use second::{command, delivery, load, power_reset, sample, write_image, CardState, Certificates, Outcome};
 use states::bad_states;
 
 fn changed(at: usize, byte: u8) -> u8 {
@@ -112,8 +112,6 @@ fn bad_states_are_refused_by_every_call() {
         assert!(!card.is_good(), "{name}");
         assert_eq!(command(&mut card, &[0x00, 0xA4, 0x00, 0x0C], lent, &mut buffer), Outcome::Refused(1), "{name}");
         assert_eq!(delivery(&mut card, &[0; 256], &mut buffer), Outcome::Refused(1), "{name}");
-        assert_eq!(delivery(&mut card, &[], &mut buffer), Outcome::Refused(1), "{name}");
-        assert_eq!(withdrawal(&mut card, &mut buffer), Outcome::Refused(1), "{name}");
         assert_eq!(power_reset(&mut card), 1, "{name}");
         assert_eq!(write_image(&card, &mut buffer), Err(1), "{name}");
         assert_eq!((card, buffer), (bad, [0xEE; 2000]), "{name}");

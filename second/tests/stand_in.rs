@@ -63,8 +63,8 @@ fn a_refused_image_leaves_the_zero_card() {
         ("L", "F21"), ("L02", "F22"), ("L0304", "F23"), (&short, "F21"), (&other_count, "F22"), (&left_over, "F27"), (&no_limits, "F28"),
     ] {
         check(&[
-            (VERIFY_PIN1, "R9000"), (line, number), ("P", "H1"), ("C", "H1"), (SELECT_ROOT, "H1"), ("D", "H1"), ("W", "H1"),
-            ("B0", "B"), ("A", "A"), ("S", "S"), ("P", "H1"), ("C", "H1"), ("D", "H1"), ("W", "H1"), ("Lx", "?"), ("L0", "?"), ("C", "H1"),
+            (VERIFY_PIN1, "R9000"), (line, number), ("P", "H1"), ("C", "H1"), (SELECT_ROOT, "H1"), ("D", "H1"),
+            ("B0", "B"), ("A", "A"), ("S", "S"), ("P", "H1"), ("C", "H1"), ("D", "H1"), ("Lx", "?"), ("L0", "?"), ("C", "H1"),
             (&load_line(&sample::image()), "L"), ("C", "H2"), ("B258", "B"), ("C", "H3"), ("A00", "A"), ("S00", "S"), ("C", "R6700"),
         ]);
     }
@@ -78,7 +78,6 @@ fn load_ends_a_waiting_job() {
     assert_eq!(stand_in.line(SELECT_ROOT.as_bytes()), "H4");
     assert_eq!(stand_in.line(sample.as_bytes()), "L");
     assert_eq!(stand_in.line(b"D"), "H5");
-    assert_eq!(stand_in.line(b"W"), "H5");
 }
 
 #[test]
@@ -92,8 +91,8 @@ fn a_job_shows_its_block() {
     let result = result_line();
     check(&[
         (VERIFY_PIN1, "R9000"), (VERIFY_PIN2, "R9000"), (&sign, &signature), (&result, "R6100"), (&sign, "R6982"),
-        ("C0088000003A1B2C3", &authenticate), ("W", "R6400"), (&longest, &padded_line("J1 1100", &"C4".repeat(245))), ("W", "R6400"),
-        ("C0022F306", "R9000"), (&first, "R9000"), ("C002A8086027777", &decipher), ("W", "R6400"),
+        ("C0088000003A1B2C3", &authenticate), ("D", "R6400"), (&longest, &padded_line("J1 1100", &"C4".repeat(245))), ("D", "R6400"),
+        ("C0022F306", "R9000"), (&first, "R9000"), ("C002A8086027777", &decipher), ("D", "R6400"),
     ]);
 }
 
@@ -105,7 +104,7 @@ fn each_key_of_a_card_is_handed_out() {
         let choose = format!("C002241A4{:02X}{choice}", choice.len() / 2);
         assert_eq!(stand_in.line(choose.as_bytes()), "R9000");
         assert_eq!(stand_in.line(b"C008800000100"), padded_line(head, "00"));
-        assert_eq!(stand_in.line(b"W"), "R6400");
+        assert_eq!(stand_in.line(b"D00"), "R6400");
     }
     assert_eq!(stand_in.line(b"C002241B6058303800100"), "R9000");
 }
@@ -163,7 +162,7 @@ fn the_edge_drops_nothing() {
 
 #[test]
 fn every_letter_has_4096_characters() {
-    for letter in ['L', 'A', 'S', 'C', 'D', 'B', 'P', 'I', 'W', 'X'] {
+    for letter in ['L', 'A', 'S', 'C', 'D', 'B', 'P', 'I', 'X'] {
         for length in [4096, 4097, 4098, 4099, 100_000] {
             check(&[(&format!("{letter}{}", "0".repeat(length - 1)), "?"), (VERIFY_PIN1, "R9000")]);
         }
@@ -175,7 +174,7 @@ fn every_letter_has_4096_characters() {
 
 #[test]
 fn other_lines() {
-    for line in ["", " ", "p", "P0", "P ", "c", "Caa", "CA", "l", "La0", "L0", "Aa0", "A0", "S0g", "S 00", "b1", "F21", "J1 1100", "w", "W0", "V35"] {
+    for line in ["", " ", "p", "P0", "P ", "c", "Caa", "CA", "l", "La0", "L0", "Aa0", "A0", "S0g", "S 00", "b1", "F21", "J1 1100", "W", "V35"] {
         check(&[(line, "?"), (VERIFY_PIN1, "R9000")]);
     }
 }

@@ -19,7 +19,7 @@ use second::{load, sample, CardState};
 use std::collections::BTreeSet;
 
 const SEEDS: u64 = 8;
-const LINES: usize = 13_000;
+const LINES: usize = 10_000;
 
 struct Step {
     line: Vec<u8>,
@@ -184,7 +184,7 @@ fn lines_have_every_length_that_matters() {
     for letter in ['L', 'A', 'S', 'C', 'D'] {
         expected.extend([(letter, 4095, false), (letter, 4096, true), (letter, 4097, true), (letter, 4098, true)]);
     }
-    expected.extend(['B', 'P', 'I', 'W', 'X'].map(|letter| (letter, 4098, true)));
+    expected.extend(['B', 'P', 'I', 'X'].map(|letter| (letter, 4098, true)));
     expected.extend([('C', 1025, false), ('D', 1025, false), (' ', 0, true), ('+', 0, true)]);
     check_all(collect(long), expected);
 }
@@ -207,7 +207,6 @@ fn refusals_come_in_the_midst_of_everything() {
         expected.extend(["H2", "H3", "H5", "A", "S", "B", "L", "P", "I0", "?"].map(|answer| (state, answer.to_string())));
     }
     expected.retain(|(state, answer)| (*state, answer.as_str()) != ("job", "H5"));
-    expected.extend(["job", "open", "PUK blocked"].map(|state| (state, "H6".to_string())));
     check_all(collect(met), expected);
 }
 

@@ -232,8 +232,8 @@ impl Again<'_> {
     /// What a line shows of the session that was, on the card as load made it.
     fn gone(&self, step: &Step) -> Option<String> {
         let card = self.card();
-        if step.answer == "H5" && card.job.is_some() {
-            return Some(format!("no job for {}", step.line[0] as char));
+        if step.line.starts_with(b"D") && step.answer == "H5" && card.job.is_some() {
+            return Some("no job".to_string());
         }
         match (step.command()?.as_slice(), step.answer.as_str()) {
             ([0x00, 0xB2, ..], "R6986") if card.file.is_some() => Some("no file".to_string()),
@@ -320,7 +320,7 @@ impl Again<'_> {
 
 #[test]
 fn a_card_that_was_written_and_loaded_is_looked_at() {
-    let gone = "no held answer,no chain,no job for D,no job for W,no file,root,environment 1,no choice for job 1,no choice for job 2";
+    let gone = "no held answer,no chain,no job,no file,root,environment 1,no choice for job 1,no choice for job 2";
     let mut expected: Vec<String> = gone.split(',').map(str::to_string).collect();
     for code in CODES {
         expected.extend([format!("{code} closed"), format!("{code} changed")]);

@@ -1,4 +1,4 @@
--- What a command, a delivery or a withdrawal answers, as the code holds it before it is written to the buffer.
+-- What a command or a delivery answers, as the code holds it before it is written to the buffer.
 use Rattle.std.specs.Prelude.{Bool, cond, ◌&&◌, length, take, eqb, leb}
 use Rattle.octets.specs.Octets.{Bytes, filled}
 use Rattle.rules.specs.declared.Card.{Card}

@@ -1,12 +1,10 @@
 -- The edge, one law for each way through a call.
 use mathlib.Core.Path.{◌≡◌, ◌∙◌}
-use mathlib.Core.Logic.{◌≢◌}
 use mathlib.Core.Bool.{true, false, not, ◌||◌}
 use Prim.Native.Nat.{ℕ, ◌≤◌, ◌<◌}
 use native.Mathlib.Omega.{arith}
-use lib.ListN.{length, take}
-use lib.Seq.{take_all}
-use borrow.Author.Tests.{eqb-true, eq-eqb, ne_eqb, not-false, lt-ltb, le-ltb, le-leb}
+use lib.ListN.{length}
+use borrow.Author.Tests.{eqb-true, not-false, lt-ltb, le-ltb, le-leb}
 use Rattle.octets.specs.Octets.{Bytes, all_bytes}
 use Rattle.rules.specs.declared.Card.{Card}
 use Rattle.rules.specs.declared.Header.{Header}
@@ -16,18 +14,18 @@ use Rattle.rules.specs.Apdu.{parse, data_of}
 use Rattle.rules.specs.State.{good}
 use Rattle.rules.specs.Answers.{Answer, response, job, Step, in_session}
 use Rattle.rules.specs.Judgement.{refusal, judge_header, judge_form, judge}
-use Rattle.rules.specs.Delivery.{deliver, withdraw}
-use Rattle.rules.specs.Edge.{Result, refuse, answered, bad_certificate, job_waits, command, delivery, withdrawal}
+use Rattle.rules.specs.Delivery.{deliver}
+use Rattle.rules.specs.Edge.{Result, refuse, answered, bad_certificate, job_waits, command, delivery}
 use Rattle.rules.proofs.Parts.{good_session_lem}
 use Rattle.rules.proofs.KeepingAnswers.{Fit, nothing_more, command_may_give}
-use Rattle.rules.proofs.KeepingKeys.{deliver_keeps, withdraw_keeps}
+use Rattle.rules.proofs.KeepingKeys.{deliver_keeps}
 use Rattle.rules.proofs.Keeping.{judge_keeps}
 use Rattle.answers.specs.Outputs.{output_of, fits, written_or}
 use Rattle.answers.proofs.Outputs.{read_back}
 use Rattle.steps.specs.declared.StepOutput.{StepOutput}
 use Rattle.steps.specs.Steps.{step_output_for}
 
--- An output has room for what a command, a delivery or a withdrawal answers.
+-- An output has room for what a command or a delivery answers.
 own_fits : (E : Bytes → Type 0) (s : Session) (d : Bytes) (a : Answer) → Fit (command_may_give E s d) a → fits a ≡ true
 unfolding fits
 own_fits E s d (response shown sw) f = le-leb (length shown) 256 f.size
@@ -108,49 +106,15 @@ module _ (c : Card) (r w : Bytes) where
       unfolding delivery
       delivery_unasked e = simp (g, le-ltb (length w) 258 room, e)
 
-      module _ (waits : not (job_waits c) ≡ false) where
-        pub delivery_amiss : length r ≢ 256 → refuse c w 6 ≡ delivery c r w
-        unfolding delivery
-        delivery_amiss n = simp (g, le-ltb (length w) 258 room, waits, ne_eqb (length r) 256 n)
+      abbrev delivered : Step
+      delivered = in_session c.codes c.counts (deliver c.session r)
 
-        module _ (whole : length r ≡ 256) where
-          abbrev delivered : Bytes → Step
-          delivered first = in_session c.codes c.counts (deliver c.session first)
+      delivery_taken : not (job_waits c) ≡ false → answered w c delivered ≡ delivery c r w
+      unfolding delivery
+      delivery_taken e = simp (g, le-ltb (length w) 258 room, e)
 
-          delivery_taken : answered w c (delivered r) ≡ delivery c r w
-          unfolding delivery
-          delivery_taken = simp (g, le-ltb (length w) 258 room, waits, eq-eqb (length r) 256 whole)
-
-          pub delivery_answered : {step : StepOutput} → step ≡ step_output_for (delivered (take 256 r)) → output_written w c step ≡ delivery c r w
-          delivery_answered e =
-              let kept = deliver_keeps c.profile.keys c.session (good_session_lem c (not-false _ g)) r whole in
-              let own = rw (take_all 256 r (omega (arith, whole))) at e in
-              step_written w c (delivered r) room (response_fits _ kept.answer) own ∙ delivery_taken
-
-module _ (c : Card) (w : Bytes) where
-  pub withdrawal_bad : not (good c) ≡ true → refuse c w 1 ≡ withdrawal c w
-  unfolding withdrawal
-  withdrawal_bad e = simp e
-
-  module _ (g : not (good c) ≡ false) where
-    pub withdrawal_short : length w < 258 → refuse c w 2 ≡ withdrawal c w
-    unfolding withdrawal
-    withdrawal_short h = simp (g, lt-ltb (length w) 258 h)
-
-    module _ (room : 258 ≤ length w) where
-      pub withdrawal_unasked : not (job_waits c) ≡ true → refuse c w 5 ≡ withdrawal c w
-      unfolding withdrawal
-      withdrawal_unasked e = simp (g, le-ltb (length w) 258 room, e)
-
-      abbrev withdrawn : Step
-      withdrawn = in_session c.codes c.counts (withdraw c.session)
-
-      withdrawal_taken : not (job_waits c) ≡ false → answered w c withdrawn ≡ withdrawal c w
-      unfolding withdrawal
-      withdrawal_taken e = simp (g, le-ltb (length w) 258 room, e)
-
-      pub withdrawal_answered : not (job_waits c) ≡ false → {step : StepOutput} → step ≡ step_output_for withdrawn
-          → output_written w c step ≡ withdrawal c w
-      withdrawal_answered waits e =
-          let kept = withdraw_keeps c.profile.keys c.session (good_session_lem c (not-false _ g)) in
-          step_written w c withdrawn room (response_fits _ kept.answer) e ∙ withdrawal_taken waits
+      pub delivery_answered : not (job_waits c) ≡ false → {step : StepOutput} → step ≡ step_output_for delivered
+          → output_written w c step ≡ delivery c r w
+      delivery_answered waits e =
+          let kept = deliver_keeps c.profile.keys c.session (good_session_lem c (not-false _ g)) r in
+          step_written w c delivered room (response_fits _ kept.answer) e ∙ delivery_taken waits

@@ -1,7 +1,7 @@
-// The calls command, delivery, withdrawal and power reset.
+// The calls command, delivery and power reset.
 ghost use Rattle.std.specs.Prelude.{◌≡◌};
 ghost use Rattle.rules.specs.Numbers.{returned};
-ghost use Rattle.rules.specs.Edge.{bad_certificate, job_waits, command, delivery, withdrawal, power_reset};
+ghost use Rattle.rules.specs.Edge.{bad_certificate, job_waits, command, delivery, power_reset};
 ghost use Rattle.answers.specs.Outputs.{output_of, written_or};
 
 use rules::{Card, Code, Outcome, Parsed, Refusal, Reply};
@@ -96,33 +96,9 @@ pub fn delivery(card: Card, res: &[u8], buffer: &mut [u8]) -> Outcome
     if !job_waits(card) {
         return refused(card, Refusal::NoJobWaiting);
     }
-    if res.len() != 256 {
-        return refused(card, Refusal::ResultLength);
-    }
     let codes = card.codes;
     let counts = card.counts;
     let step = steps::in_session(codes, counts, deliveries::deliver(card.session, res));
-    answered(card, step, buffer)
-}
-
-// A withdrawal: the key host's word that no result will come, and the buffer for the answer.
-pub fn withdrawal(card: Card, buffer: &mut [u8]) -> Outcome
-    ensures { record { returned = returned result.reply; card = result.card; buffer = buffer.new } ≡ withdrawal card buffer.old }
-{
-    if !good_state::good(card) {
-        return refused(card, Refusal::BadState);
-    }
-    let room = buffer.len();
-    if room < 258 {
-        return refused(card, Refusal::ShortBuffer);
-    }
-    let waiting = job_waits(card);
-    if !waiting {
-        return refused(card, Refusal::NoJobWaiting);
-    }
-    let codes = card.codes;
-    let counts = card.counts;
-    let step = steps::in_session(codes, counts, deliveries::withdraw(card.session));
     answered(card, step, buffer)
 }
 

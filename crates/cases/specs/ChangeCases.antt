@@ -3,20 +3,23 @@ use Rattle.std.specs.Prelude.{ℕ, ◌-◌, ◌≡◌, true, false, List, [], �
 use Rattle.octets.specs.Octets.{Bytes}
 use Rattle.rules.specs.declared.Card.{Card}
 use Rattle.rules.specs.Codes.{PUK, PIN1, PIN2, storing}
-use Rattle.rules.specs.Counting.{PowerReset, trace}
+use Rattle.rules.specs.Counting.{Call, PowerReset, trace}
 use Rattle.rules.specs.Sample.{sample_card, puk, pin1, pin2}
-use Rattle.rules.specs.Cases.{shows, code, hands, is_reset, refuses, deliver_to, withdrawing, verify_of, asking, sha1_digest, sign_sha1}
-use Rattle.rules.specs.Cases.{sign_job}
+use Rattle.rules.specs.Cases.{shows, code, hands, is_reset, refuses, deliver_to, verify_of, asking, sha1_digest, sign_sha1, sign_job}
 use Rattle.rules.specs.Cases.{send, choose_key_of, decipher_part, sw, fresh}
 use Rattle.cases.specs.SecondCard.{second_card, second_puk, second_pin1, second_pin2}
 use Rattle.cases.specs.Turns.{Turn, Run, ◌⇒◌, from, Shown, tries, marks, with_le, sending, sending_with_le, fives, nines, block}
 use Rattle.cases.specs.Turns.{in_class, bare, select_root, select_directory, select_file, record_read, get_response, environment}
-use Rattle.cases.specs.Turns.{in_environment, authenticate}
+use Rattle.cases.specs.Turns.{in_environment}
 use Rattle.cases.specs.Turns.{with_codes, sample_tries, sample_marks, second_tries, second_open}
 use Rattle.cases.specs.PendingCases.{pending_on}
 use Rattle.cases.specs.CodeCases.{change_of}
 use Rattle.cases.specs.UnblockingCases.{unblock, unblock_with, blocked}
 use Rattle.cases.specs.CountCases.{counts}
+
+-- INTERNAL AUTHENTICATE of three bytes.
+abbrev pub authenticate : Call
+authenticate = sending 0x88 0x00 0x00 (fives 3)
 
 -- A CHANGE of code k, and a 2C with P1 00 for a PIN, to no value, to one too short, one too long, and one not of digits: 6A80.
 abbrev pub bad_changes : ℕ → Bytes → ℕ → List Turn
@@ -150,7 +153,7 @@ changes =
           ∷ change_of PIN2 (fives 5) pin2 ⇒ sw 0x9000
           ∷ sign_sha1 ⇒ sign_job
           ∷ change_of PIN2 pin2 (fives 5) ⇒ refuses 4
-          ∷ withdrawing ⇒ sw 0x6400
+          ∷ deliver_to [] ⇒ sw 0x6400
           ∷ sign_sha1 ⇒ sw 0x6982
           ∷ [];
       codes = fresh;
@@ -187,7 +190,7 @@ changes =
           ∷ authenticate ⇒ hands 1 0x1200 (block (fives 3))
           ∷ deliver_to (replicate 256 0x5A) ⇒ sw 0x6100
           ∷ authenticate ⇒ hands 1 0x1200 (block (fives 3))
-          ∷ withdrawing ⇒ sw 0x6400
+          ∷ deliver_to [] ⇒ sw 0x6400
           ∷ [];
       codes = marks false true true;
     }
@@ -198,7 +201,7 @@ changes =
           ∷ change_of PIN1 pin1 (fives 4) ⇒ sw 0x9000
           ∷ decipher_part 0x10 255 ⇒ sw 0x9000
           ∷ decipher_part 0x00 2 ⇒ hands 3 0x1100 (replicate 256 0x00)
-          ∷ withdrawing ⇒ sw 0x6400
+          ∷ deliver_to [] ⇒ sw 0x6400
           ∷ asking PIN1 ⇒ sw 0x9000
           ∷ [];
       codes = marks false true false;
@@ -339,7 +342,7 @@ changes =
           ∷ change_of PIN1 second_pin1 (fives 4) ⇒ sw 0x9000
           ∷ record_read 1 ⇒ shows (0xFF ∷ []) 0x9000
           ∷ authenticate ⇒ hands 1 0x1100 (block (fives 3))
-          ∷ withdrawing ⇒ sw 0x6400
+          ∷ deliver_to [] ⇒ sw 0x6400
           ∷ [];
       codes = code PUK 3 false ∷ code PIN1 3 true ∷ code PIN2 1 false ∷ [];
     }
@@ -360,7 +363,7 @@ changes =
           ∷ verify_of PIN1 (fives 4) ⇒ sw 0x9000
           ∷ decipher_part 0x10 255 ⇒ sw 0x9000
           ∷ decipher_part 0x00 2 ⇒ hands 3 0x1100 (replicate 256 0x00)
-          ∷ withdrawing ⇒ sw 0x6400
+          ∷ deliver_to [] ⇒ sw 0x6400
           ∷ [];
       codes = marks false true false;
     }

@@ -4,10 +4,10 @@ use Rattle.std.specs.Prelude.{ℕ, ◌≡◌, List, [], ◌∷◌, ◌++◌, map
 use Rattle.octets.specs.Octets.{Bytes}
 use Rattle.rules.specs.Numbers.{edge, responded, handed_out, was_reset}
 use Rattle.rules.specs.Codes.{PUK, PIN1, PIN2}
-use Rattle.rules.specs.Counting.{Call, Withdrawal, PowerReset, Exchange, wrong_answers, restorations, unblockings}
+use Rattle.rules.specs.Counting.{Call, PowerReset, Exchange, wrong_answers, restorations, unblockings}
 use Rattle.rules.specs.Counting.{pin2_presentations, pin2_changes, signatures, tries_at_load, count_at_load}
 use Rattle.rules.specs.Sample.{sample_image}
-use Rattle.rules.specs.Cases.{deliver_to, withdrawing, verify_of, sign_sha1, send}
+use Rattle.rules.specs.Cases.{deliver_to, verify_of, sign_sha1, send}
 use Rattle.cases.specs.SecondCard.{second_image}
 use Rattle.cases.specs.Turns.{bare, with_le, sending, sending_with_le, fives}
 
@@ -132,7 +132,7 @@ tallies =
           ∷ [];
       are = 0 ∷ 0 ∷ 0 ∷ 1 ∷ 0 ∷ 0 ∷ 1 ∷ 1 ∷ 0 ∷ 0 ∷ 0 ∷ [];
     }
-    -- a signature is a job of kind 2 that a command returned; jobs 1 and 3, a delivery and a withdrawal are none
+    -- a signature is a job of kind 2 that a command returned; jobs 1 and 3, and a delivery, are none
     ∷ record {
       exchanges =
           handed sign_sha1 2
@@ -140,13 +140,12 @@ tallies =
           ∷ handed sign_sha1 1
           ∷ handed sign_sha1 3
           ∷ handed (deliver_to []) 2
-          ∷ handed withdrawing 2
           ∷ answered sign_sha1 0x69 0x82
           ∷ [];
       are = 0 ∷ 0 ∷ 0 ∷ 0 ∷ 0 ∷ 0 ∷ 0 ∷ 0 ∷ 0 ∷ 0 ∷ 2 ∷ [];
     }
-    -- nothing else counts: a VERIFY without data; 9000 to other commands, to an empty one, to a delivery of the bytes of
-    -- a VERIFY and to a withdrawal with them in its buffer; 63C2 to it; a reset
+    -- nothing else counts: a VERIFY without data; 9000 to other commands, to an empty one, and to a delivery of the
+    -- bytes of a VERIFY; a reset
     ∷ record {
       exchanges =
           answered (bare 0x20 0x00 PIN2) 0x90 0x00
@@ -154,9 +153,6 @@ tallies =
           ∷ answered (bare 0xA4 0x00 0x0C) 0x90 0x00
           ∷ answered (sending 0x22 0x41 0xA4 (0x83 ∷ 0x00 ∷ [])) 0x90 0x00
           ∷ answered (deliver_to (0x00 ∷ 0x20 ∷ 0x00 ∷ PIN2 ∷ 0x05 ∷ fives 5)) 0x90 0x00
-          ∷ answered (Withdrawal (0x00 ∷ 0x20 ∷ 0x00 ∷ PIN2 ∷ 0x05 ∷ fives 5)) 0x90 0x00
-          ∷ answered (Withdrawal (0x00 ∷ 0x2C ∷ 0x03 ∷ PIN1 ∷ [])) 0x90 0x00
-          ∷ answered (Withdrawal (0x00 ∷ 0x20 ∷ 0x00 ∷ PIN1 ∷ 0x04 ∷ fives 4)) 0x63 0xC2
           ∷ answered (send []) 0x90 0x00
           ∷ record { call = PowerReset; returned = was_reset; buffer = [] }
           ∷ [];

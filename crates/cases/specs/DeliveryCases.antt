@@ -1,19 +1,11 @@
--- Document 01, "Padding and delivery", parted by document 02, wish 7.
-use Rattle.std.specs.Prelude.{ℕ, ◌-◌, ◌≡◌, Bool, true, false, List, [], ◌∷◌, ◌++◌, map, length, replicate}
+-- Document 01, "Padding and delivery".
+use Rattle.std.specs.Prelude.{ℕ, ◌-◌, true, List, [], ◌∷◌, ◌++◌, length, replicate}
 use Rattle.octets.specs.Octets.{Bytes}
 use Rattle.pkcs1.specs.Pkcs1.{pad, strip}
-use Rattle.rules.specs.declared.Card.{Card}
-use Rattle.rules.specs.Numbers.{Returned, edge, responded}
-use Rattle.rules.specs.Session.{new_session, with_environment, with_held}
-use Rattle.rules.specs.Counting.{Call, Delivery, Withdrawal, PowerReset, step, next, of_bytes}
-use Rattle.rules.specs.Demands.{delivers_amiss, all_amiss, by_key_host}
 use Rattle.rules.specs.Sample.{sample_card, references}
-use Rattle.rules.specs.Codes.{PUK, PIN1, PIN2}
-use Rattle.rules.specs.Cases.{shows, hands, refuses, is_reset, code, deliver_to, withdrawing, verify_of, sha1_digest, sign_sha1, decipher_part, sw, fresh}
-use Rattle.cases.specs.SecondCard.{second_card, second_pin2}
-use Rattle.cases.specs.Turns.{Fact, ◌is◌, Holds, Run, Turn, ◌⇒◌, from, Shown, tries, marks, record_read, get_response, environment}
-use Rattle.cases.specs.Turns.{fives, authenticate}
-use Rattle.cases.specs.Turns.{sending, select_root, block, with_session, sample_tries, sample_marks, second_tries, second_open, at, in_environment, waiting}
+use Rattle.rules.specs.Cases.{shows, refuses, deliver_to, sw, fresh}
+use Rattle.cases.specs.Turns.{Fact, ◌is◌, Holds, Run, Turn, ◌⇒◌, from, Shown, marks, record_read, get_response}
+use Rattle.cases.specs.Turns.{sending, select_root, block, sample_marks, second_open, at, in_environment, waiting}
 
 -- 256 bytes that stripping takes, with a message: 00 02, non-zero bytes, 00, message. With another start; with n
 -- non-zero bytes and then zeros.
@@ -36,89 +28,19 @@ delivered kind key le turns = from (waiting kind key le sample_card) turns fresh
 
 unfoldable pub deliveries : List Run
 deliveries =
-    -- length not 256: edge 6, for each kind; the job waits on, a command is refused, and the right delivery is answered as ever
+    -- length not 256: 6400, for each kind; the job ends, so that a delivery is refused and a command is not
     record {
       card = waiting 1 0x1100 256 sample_card;
       turns =
-          deliver_to [] ⇒ refuses 6
-          ∷ deliver_to (result 1) ⇒ refuses 6
-          ∷ deliver_to (result 255) ⇒ refuses 6
-          ∷ select_root ⇒ refuses 4
-          ∷ deliver_to (result 257) ⇒ refuses 6
-          ∷ deliver_to (result 512) ⇒ refuses 6
-          ∷ deliver_to (result 256) ⇒ shows (result 256) 0x9000
-          ∷ deliver_to (result 255) ⇒ refuses 5
-          ∷ select_root ⇒ sw 0x9000
-          ∷ [];
-      codes = fresh;
-    }
-    ∷ delivered 2 0x0100 0 (deliver_to (result 257) ⇒ refuses 6 ∷ deliver_to (result 256) ⇒ sw 0x6100 ∷ deliver_to (result 256) ⇒ refuses 5 ∷ [])
-    ∷ record {
-      card = waiting 3 0x1100 256 sample_card;
-      turns =
-          deliver_to [] ⇒ refuses 6
-          ∷ get_response 0x00 ⇒ refuses 4
-          ∷ deliver_to (carrying (0x41 ∷ []) ++ 0x00 ∷ []) ⇒ refuses 6
-          ∷ deliver_to (0x02 ∷ (replicate 253 0x55 ++ 0x00 ∷ [])) ⇒ refuses 6
-          ∷ deliver_to (carrying (0x41 ∷ [])) ⇒ shows (0x41 ∷ []) 0x9000
-          ∷ get_response 0x00 ⇒ sw 0x6985
-          ∷ [];
-      codes = fresh;
-    }
-    -- a withdrawal: 6400, for each kind and with any Le; the job ends, so that neither is taken again and a command is judged
-    ∷ record {
-      card = waiting 1 0x1100 256 sample_card;
-      turns =
-          withdrawing ⇒ sw 0x6400
-          ∷ withdrawing ⇒ refuses 5
+          deliver_to (result 255) ⇒ sw 0x6400
           ∷ deliver_to (result 256) ⇒ refuses 5
-          ∷ get_response 0x00 ⇒ sw 0x6985
           ∷ select_root ⇒ sw 0x9000
           ∷ [];
       codes = fresh;
     }
-    ∷ delivered 2 0x0100 0 (withdrawing ⇒ sw 0x6400 ∷ deliver_to (result 256) ⇒ refuses 5 ∷ [])
-    ∷ delivered 2 0x0100 256 (withdrawing ⇒ sw 0x6400 ∷ withdrawing ⇒ refuses 5 ∷ [])
-    ∷ delivered 3 0x1100 256 (withdrawing ⇒ sw 0x6400 ∷ deliver_to (carrying (0x41 ∷ [])) ⇒ refuses 5 ∷ [])
-    ∷ delivered 3 0x1100 1 (withdrawing ⇒ sw 0x6400 ∷ [])
-    -- a withdrawal after refused deliveries; a reset ends the job as well, and then there is none to withdraw
-    ∷ delivered 1 0x1100 0 (deliver_to (result 1) ⇒ refuses 6 ∷ deliver_to (result 300) ⇒ refuses 6 ∷ withdrawing ⇒ sw 0x6400 ∷ [])
-    ∷ delivered 2 0x0100 0 (deliver_to [] ⇒ refuses 6 ∷ PowerReset ⇒ is_reset ∷ withdrawing ⇒ refuses 5 ∷ deliver_to [] ⇒ refuses 5 ∷ [])
-    -- PIN2 stays spent after a refused delivery, a withdrawal and a delivery; PIN1 stays open for jobs 1 and 3 (the second card)
-    ∷ record {
-      card = second_card;
-      turns =
-          verify_of PIN2 second_pin2 ⇒ sw 0x9000
-          ∷ sign_sha1 ⇒ hands 2 0x0200 (block sha1_digest)
-          ∷ deliver_to [] ⇒ refuses 6
-          ∷ sign_sha1 ⇒ refuses 4
-          ∷ withdrawing ⇒ sw 0x6400
-          ∷ sign_sha1 ⇒ sw 0x6982
-          ∷ verify_of PIN2 second_pin2 ⇒ sw 0x9000
-          ∷ sign_sha1 ⇒ hands 2 0x0200 (block sha1_digest)
-          ∷ deliver_to (result 255) ⇒ refuses 6
-          ∷ deliver_to (result 256) ⇒ sw 0x6100
-          ∷ sign_sha1 ⇒ sw 0x6982
-          ∷ [];
-      codes = code PUK 3 false ∷ code PIN1 2 false ∷ code PIN2 3 false ∷ [];
-    }
-    ∷ record {
-      card = second_open;
-      turns =
-          authenticate ⇒ hands 1 0x1200 (block (fives 3))
-          ∷ deliver_to (result 257) ⇒ refuses 6
-          ∷ withdrawing ⇒ sw 0x6400
-          ∷ authenticate ⇒ hands 1 0x1200 (block (fives 3))
-          ∷ withdrawing ⇒ sw 0x6400
-          ∷ environment 6 ⇒ sw 0x9000
-          ∷ decipher_part 0x10 255 ⇒ sw 0x9000
-          ∷ decipher_part 0x00 2 ⇒ hands 3 0x1200 (replicate 256 0x00)
-          ∷ deliver_to [] ⇒ refuses 6
-          ∷ withdrawing ⇒ sw 0x6400
-          ∷ decipher_part 0x00 2 ⇒ sw 0x6700
-          ∷ [];
-      codes = marks true true true;
-    }
+    ∷ delivered 2 0x0100 0 (deliver_to (result 257) ⇒ sw 0x6400 ∷ deliver_to (result 256) ⇒ refuses 5 ∷ [])
+    ∷ delivered 3 0x1100 256 (deliver_to [] ⇒ sw 0x6400 ∷ get_response 0x00 ⇒ sw 0x6985 ∷ [])
+    ∷ delivered 3 0x1100 256 (deliver_to (carrying (0x41 ∷ []) ++ 0x00 ∷ []) ⇒ sw 0x6400 ∷ [])
     -- jobs 1 and 2: the 256 bytes, by the job's Le: 256, 255, 1, none
     ∷ record {
       card = waiting 1 0x1100 256 sample_card;
@@ -176,12 +98,7 @@ deliveries =
     ∷ delivered 3 0x1100 256 (deliver_to (starting 0x01 0x02 (0x41 ∷ [])) ⇒ sw 0x6A80 ∷ [])
     ∷ delivered 3 0x1100 256 (deliver_to (non_zero 7) ⇒ sw 0x6A80 ∷ [])
     ∷ delivered 3 0x1100 256 (deliver_to (non_zero 254) ⇒ sw 0x6A80 ∷ [])
-    -- tries are neither lost nor given back by any of these
-    ∷ from (waiting 1 0x1100 0 (sample_tries 2 1 2)) (deliver_to [] ⇒ refuses 6 ∷ withdrawing ⇒ sw 0x6400 ∷ []) (tries 2 1 2)
-    ∷ from (waiting 2 0x0200 256 (second_tries 0 0 1)) (withdrawing ⇒ sw 0x6400 ∷ []) (tries 0 0 1)
-    ∷ from (waiting 3 0x1200 0 (second_tries 1 2 0)) (deliver_to (result 256) ⇒ sw 0x6A80 ∷ []) (tries 1 2 0)
-    ∷ from (waiting 1 0x1100 0 (sample_tries 1 2 1)) (deliver_to (result 256) ⇒ sw 0x6100 ∷ []) (tries 1 2 1)
-    -- a delivery leaves the codes and the environment, a withdrawal the codes and the selection
+    -- a delivery leaves codes, selection, environment and choices
     ∷ record {
       card = waiting 2 0x0200 0 (at 0xEEEE 0x0033 (in_environment 6 (second_open)));
       turns =
@@ -194,93 +111,15 @@ deliveries =
     ∷ record {
       card = waiting 1 0x1100 0 (at 0xEEEE 0x0033 (sample_marks true true true));
       turns =
-          deliver_to (result 1) ⇒ refuses 6
-          ∷ withdrawing ⇒ sw 0x6400
+          deliver_to (result 1) ⇒ sw 0x6400
           ∷ record_read 1 ⇒ shows references 0x9000
           ∷ [];
       codes = marks true true true;
     }
     ∷ []
 
--- The second card with all of a session in use that a waiting job allows, but no job.
-abbrev pub working : Card
-working = at 0xEEEE 0x5044 (with_session second_open (with_environment new_session 6 (0x1100 ∷ 0x0100 ∷ 0x1100 ∷ [])))
-
--- The card after a withdrawal, while a job of each kind waits; and after a delivery of n bytes, while a signature does.
-unfoldable pub withdrawn : List Card
-withdrawn =
-    map (λ c. next c withdrawing) (
-    waiting 1 0x1200 0 working
-    ∷ waiting 2 0x0200 256 working
-    ∷ waiting 3 0x1100 255 working
-    ∷ waiting 1 0x1100 1 sample_card
-    ∷ []
-    )
-
--- The card after a delivery that is taken: as it was, but for the job and what is held. A result given whole; held, without Le; stripped
--- and given; stripped and held; an empty message; and one that stripping refuses.
-unfoldable pub taken : List Card
-taken =
-    map (λ c. next c (deliver_to (result 256))) (waiting 1 0x1200 256 working ∷ waiting 2 0x0200 256 working ∷ waiting 2 0x0100 0 working ∷ [])
-    ++ map (λ c. next c (deliver_to (carrying (0x41 ∷ 0x42 ∷ [])))) (waiting 3 0x1100 2 working ∷ waiting 3 0x1100 1 working ∷ [])
-    ++ next (waiting 3 0x1200 0 working) (deliver_to (carrying []))
-    ∷ next (waiting 3 0x1200 256 working) (deliver_to (result 256))
-    ∷ []
-
-abbrev pub working_held : Bytes → Card
-working_held d = with_session working (with_held working.session d)
-
-unfoldable pub undelivered : List Card
-undelivered = map (λ n. next (waiting 2 0x0200 256 working) (deliver_to (result n))) (0 ∷ 1 ∷ 255 ∷ 257 ∷ 512 ∷ [])
-
--- What a delivery and a withdrawal write.
-unfoldable pub answerings : List (Fact (Returned × Bytes))
-answerings =
-    written (waiting 2 0x0200 256 working) (Withdrawal (replicate 258 0xEE)) is (responded 2, 0x64 ∷ 0x00 ∷ replicate 256 0xEE)
-    ∷ written (waiting 3 0x1100 0 sample_card) (Withdrawal (replicate 600 0xEE)) is (responded 2, 0x64 ∷ 0x00 ∷ replicate 598 0xEE)
-    ∷ written (waiting 2 0x0200 256 working) (Withdrawal (replicate 257 0xEE)) is (edge 2, replicate 257 0xEE)
-    ∷ written working (Withdrawal (replicate 258 0xEE)) is (edge 5, replicate 258 0xEE)
-    ∷ written (waiting 2 0x0200 256 working) (Delivery (result 255) (replicate 258 0xEE)) is (edge 6, replicate 258 0xEE)
-    ∷ []
-  where
-    written : Card → Call → Returned × Bytes
-    written c x = ((step c x).returned, (step c x).buffer)
-
--- Which calls are deliveries of another length, and which come from the key host.
-abbrev pub kinds_of_call : List Call
-kinds_of_call =
-    select_root ∷ deliver_to [] ∷ deliver_to (result 255) ∷ deliver_to (result 256) ∷ deliver_to (result 257) ∷ withdrawing ∷ PowerReset ∷ []
-
-unfoldable pub host_calls : List (List Bool)
-host_calls = map delivers_amiss kinds_of_call ∷ map by_key_host kinds_of_call ∷ []
-
--- Calls that are all deliveries of another length; calls of bytes.
-unfoldable pub listings : List (Fact Bool)
-listings =
-    all_amiss [] is true
-    ∷ all_amiss (deliver_to [] ∷ deliver_to (result 257) ∷ []) is true
-    ∷ all_amiss (deliver_to [] ∷ deliver_to (result 256) ∷ []) is false
-    ∷ all_amiss (withdrawing ∷ deliver_to [] ∷ []) is false
-    ∷ all_amiss (deliver_to [] ∷ PowerReset ∷ []) is false
-    ∷ of_bytes (Withdrawal (0xFF ∷ [])) is true
-    ∷ of_bytes (Withdrawal (0x100 ∷ [])) is false
-    ∷ of_bytes (Delivery (0x100 ∷ []) []) is false
-    ∷ of_bytes (Delivery [] (0x100 ∷ [])) is false
-    ∷ []
-
-pub record DeliveriesShown : Type 0 where
-  pub seen : Shown deliveries
-  pub withdrawn : withdrawn ≡ working ∷ working ∷ working ∷ sample_card ∷ []
-  pub taken :
-      taken ≡ working ∷ working ∷ working_held (result 256) ∷ working ∷ working_held (0x41 ∷ 0x42 ∷ []) ∷ working ∷ working ∷ []
-  pub undelivered : undelivered ≡ replicate 5 (waiting 2 0x0200 256 working)
-  pub answered : Holds answerings
-  pub host :
-      host_calls
-      ≡ (false ∷ true ∷ true ∷ false ∷ true ∷ false ∷ false ∷ [])
-      ∷ (false ∷ true ∷ true ∷ true ∷ true ∷ true ∷ false ∷ [])
-      ∷ []
-  pub listed : Holds listings
+abbrev pub DeliveriesShown : Type 0
+DeliveriesShown = Shown deliveries
 
 -- Padding: its answer, and its buffer afterwards.
 unfoldable pub paddings : List (Fact (ℕ × Bytes))

@@ -8,10 +8,10 @@ use Rattle.rules.specs.Codes.{PUK, PIN1}
 use Rattle.rules.specs.Session.{new_session, with_environment, with_held}
 use Rattle.rules.specs.Image.{zero_card, load}
 use Rattle.rules.specs.Edge.{power_reset}
-use Rattle.rules.specs.Counting.{Call, Command, Delivery, Withdrawal, PowerReset, step, next}
+use Rattle.rules.specs.Counting.{Call, Command, Delivery, PowerReset, step, next}
 use Rattle.rules.specs.Sample.{sample_card, sample_image, puk, pin1}
-use Rattle.rules.specs.Cases.{shows, refuses, is_reset, buffer, send, deliver_to, withdrawing, verify_of, decipher_part, sw, fresh}
-use Rattle.cases.specs.Turns.{Fact, ◌is◌, Holds, Run, ◌⇒◌, from, Shown, tries, marks, get_response, sending, select_root}
+use Rattle.rules.specs.Cases.{shows, refuses, is_reset, buffer, send, deliver_to, verify_of, decipher_part, sw, fresh}
+use Rattle.cases.specs.Turns.{Fact, ◌is◌, Holds, Run, ◌⇒◌, from, Shown, tries, get_response, sending, select_root}
 use Rattle.cases.specs.Turns.{block, with_session, sample_tries, sample_marks, second_tries, second_open, at}
 use Rattle.cases.specs.Turns.{chained, waiting}
 
@@ -25,13 +25,7 @@ empty a b n = Command [] (certificate a) (certificate b) (replicate n 0xEE)
 unfoldable pub edges : List Run
 edges =
     -- 1, before all others, in every call
-    from zero_card (
-    empty 0 0 0 ⇒ refuses 1
-    ∷ Delivery [] [] ⇒ refuses 1
-    ∷ Withdrawal [] ⇒ refuses 1
-    ∷ PowerReset ⇒ refuses 1
-    ∷ []
-    ) (tries 0 0 0)
+    from zero_card (empty 0 0 0 ⇒ refuses 1 ∷ Delivery [] [] ⇒ refuses 1 ∷ PowerReset ⇒ refuses 1 ∷ []) (tries 0 0 0)
     -- 2: buffer under 258 bytes, before 3 and 5; 258 and more are enough
     ∷ record {
       card = sample_card;
@@ -40,8 +34,6 @@ edges =
           ∷ empty 1 1 257 ⇒ refuses 2
           ∷ empty 1 1 0 ⇒ refuses 2
           ∷ Delivery [] (replicate 257 0xEE) ⇒ refuses 2
-          ∷ Withdrawal (replicate 257 0xEE) ⇒ refuses 2
-          ∷ Withdrawal [] ⇒ refuses 2
           ∷ empty 1 1 258 ⇒ sw 0x6700
           ∷ empty 1 1 600 ⇒ sw 0x6700
           ∷ [];
@@ -68,32 +60,12 @@ edges =
           ∷ send [] ⇒ refuses 4
           ∷ select_root ⇒ refuses 4
           ∷ Delivery [] (replicate 257 0xEE) ⇒ refuses 2
-          ∷ Delivery (replicate 256 0x5A) (replicate 257 0xEE) ⇒ refuses 2
-          ∷ Withdrawal (replicate 257 0xEE) ⇒ refuses 2
           ∷ deliver_to (replicate 256 0x5A) ⇒ shows (replicate 256 0x5A) 0x9000
           ∷ [];
       codes = fresh;
     }
-    -- 5: delivery or withdrawal with no job waiting, for any result and before 6
-    ∷ from sample_card (deliver_to [] ⇒ refuses 5 ∷ deliver_to (replicate 256 0x5A) ⇒ refuses 5 ∷ withdrawing ⇒ refuses 5 ∷ []) fresh
-    ∷ record {
-      card = second_open;
-      turns = Delivery (replicate 257 0x5A) (replicate 300 0xEE) ⇒ refuses 5 ∷ Withdrawal (replicate 300 0xEE) ⇒ refuses 5 ∷ [];
-      codes = marks true true true;
-    }
-    -- 6: a result of another length while a job waits, after 2 (02, wish 7); the job waits on
-    ∷ record {
-      card = waiting 3 0x1200 0 second_open;
-      turns =
-          Delivery (replicate 255 0x5A) (replicate 257 0xEE) ⇒ refuses 2
-          ∷ Delivery (replicate 255 0x5A) (replicate 258 0xEE) ⇒ refuses 6
-          ∷ Delivery (replicate 257 0x5A) (replicate 600 0xEE) ⇒ refuses 6
-          ∷ select_root ⇒ refuses 4
-          ∷ Withdrawal (replicate 257 0xEE) ⇒ refuses 2
-          ∷ Withdrawal (replicate 258 0xEE) ⇒ sw 0x6400
-          ∷ [];
-      codes = marks true true true;
-    }
+    -- 5: delivery with no job waiting, for any result
+    ∷ from sample_card (deliver_to [] ⇒ refuses 5 ∷ deliver_to (replicate 256 0x5A) ⇒ refuses 5 ∷ []) fresh
     -- the edge's refusals drop nothing: the held answer and the chain are there afterwards
     ∷ record {
       card = with_session sample_card (with_held new_session (0x41 ∷ 0x42 ∷ []));
@@ -101,7 +73,6 @@ edges =
           empty 1 1 257 ⇒ refuses 2
           ∷ empty 0 1 258 ⇒ refuses 3
           ∷ deliver_to [] ⇒ refuses 5
-          ∷ withdrawing ⇒ refuses 5
           ∷ get_response 0x00 ⇒ shows (0x41 ∷ 0x42 ∷ []) 0x9000
           ∷ [];
       codes = fresh;
@@ -112,7 +83,6 @@ edges =
           empty 1 1 257 ⇒ refuses 2
           ∷ empty 0 1 258 ⇒ refuses 3
           ∷ deliver_to [] ⇒ refuses 5
-          ∷ withdrawing ⇒ refuses 5
           ∷ decipher_part 0x00 2 ⇒ sw 0x6985
           ∷ [];
       codes = fresh;
@@ -210,7 +180,7 @@ pub record WrittenShown : Type 0 where
   pub reset_with_job : power_reset (waiting 2 0x0100 256 sample_card) ≡ (was_reset, sample_card)
   -- a refusal leaves the state as it was
   pub stays :
-      map (next in_use) (empty 1 1 257 ∷ empty 0 1 258 ∷ deliver_to [] ∷ withdrawing ∷ Withdrawal [] ∷ []) ≡ replicate 5 in_use
+      map (next in_use) (empty 1 1 257 ∷ empty 0 1 258 ∷ deliver_to [] ∷ []) ≡ in_use ∷ in_use ∷ in_use ∷ []
   pub stays_waiting :
-      map (next (waiting 2 0x0100 256 sample_card)) (send [] ∷ Delivery [] [] ∷ Withdrawal [] ∷ deliver_to [] ∷ [])
-      ≡ replicate 4 (waiting 2 0x0100 256 sample_card)
+      map (next (waiting 2 0x0100 256 sample_card)) (send [] ∷ Delivery [] [] ∷ [])
+      ≡ waiting 2 0x0100 256 sample_card ∷ waiting 2 0x0100 256 sample_card ∷ []

@@ -7,7 +7,7 @@ use Rattle.rules.specs.declared.Environment.{Environment}
 use Rattle.rules.specs.Session.{with_environment}
 use Rattle.rules.specs.Counting.{Call, next}
 use Rattle.rules.specs.Sample.{sample_card}
-use Rattle.rules.specs.Cases.{shows, hands, deliver_to, withdrawing, sha1_digest, sign_sha1, choose_key_of, decipher_part, sw, fresh}
+use Rattle.rules.specs.Cases.{shows, hands, deliver_to, sha1_digest, sign_sha1, choose_key_of, decipher_part, sw, fresh}
 use Rattle.cases.specs.SecondCard.{second_card}
 use Rattle.cases.specs.Turns.{bytes, sieved, Fact, ◌is◌, Holds, Run, ◌⇒◌, from, Shown, tries, marks, sending}
 use Rattle.cases.specs.Turns.{sending_with_le, environment, block, with_session, sample_marks, second_open}
@@ -19,8 +19,8 @@ abbrev pub choosing : ℕ → ℕ → ℕ → ℕ → Card
 choosing n a b c = with_session second_open (with_environment second_open.session n (a ∷ b ∷ c ∷ []))
 
 -- 88 of one byte.
-abbrev pub authenticate_byte : Call
-authenticate_byte = sending 0x88 0x00 0x00 (0x41 ∷ [])
+abbrev pub authenticate : Call
+authenticate = sending 0x88 0x00 0x00 (0x41 ∷ [])
 
 -- 22 41 with data; with 83 00.
 abbrev pub choose : ℕ → Bytes → Call
@@ -158,19 +158,19 @@ keys =
     ∷ record {
       card = in_environment 6 sample_card;
       turns =
-          authenticate_byte ⇒ sw 0x6985
+          authenticate ⇒ sw 0x6985
           ∷ environment 1 ⇒ sw 0x9000
-          ∷ authenticate_byte ⇒ sw 0x6982
+          ∷ authenticate ⇒ sw 0x6982
           ∷ [];
       codes = fresh;
     }
-    ∷ from (sample_marks true false true) (authenticate_byte ⇒ sw 0x6982 ∷ []) (marks true false true)
+    ∷ from (sample_marks true false true) (authenticate ⇒ sw 0x6982 ∷ []) (marks true false true)
     -- job 1 with the active key; 1 byte and 245; PIN1's mark stays
     ∷ record {
       card = sample_marks false true false;
       turns =
-          authenticate_byte ⇒ hands 1 0x1100 (block (0x41 ∷ []))
-          ∷ withdrawing ⇒ sw 0x6400
+          authenticate ⇒ hands 1 0x1100 (block (0x41 ∷ []))
+          ∷ deliver_to [] ⇒ sw 0x6400
           ∷ sending 0x88 0x00 0x00 (replicate 245 0x42) ⇒
           hands 1 0x1100 (0x00 ∷ 0x01 ∷ (replicate 8 0xFF ++ 0x00 ∷ replicate 245 0x42))
           ∷ [];
@@ -193,8 +193,8 @@ keys =
     ∷ record {
       card = choosing 1 0 0 0;
       turns =
-          authenticate_byte ⇒ hands 1 0x1200 (block (0x41 ∷ []))
-          ∷ withdrawing ⇒ sw 0x6400
+          authenticate ⇒ hands 1 0x1200 (block (0x41 ∷ []))
+          ∷ deliver_to [] ⇒ sw 0x6400
           ∷ sign_sha1 ⇒ hands 2 0x0200 (block sha1_digest)
           ∷ [];
       codes = marks true true false;
@@ -208,8 +208,8 @@ keys =
     ∷ record {
       card = choosing 1 0x1100 0x0100 0;
       turns =
-          authenticate_byte ⇒ hands 1 0x1100 (block (0x41 ∷ []))
-          ∷ withdrawing ⇒ sw 0x6400
+          authenticate ⇒ hands 1 0x1100 (block (0x41 ∷ []))
+          ∷ deliver_to [] ⇒ sw 0x6400
           ∷ sign_sha1 ⇒ hands 2 0x0100 (block sha1_digest)
           ∷ [];
       codes = marks true true false;
@@ -220,16 +220,16 @@ keys =
       codes = marks true true true;
     }
     -- a choice for job 3 is none for job 1
-    ∷ from (choosing 1 0 0 0x1100) (authenticate_byte ⇒ hands 1 0x1200 (block (0x41 ∷ [])) ∷ []) (marks true true true)
+    ∷ from (choosing 1 0 0 0x1100) (authenticate ⇒ hands 1 0x1200 (block (0x41 ∷ [])) ∷ []) (marks true true true)
     -- chosen by 22 41, and active again by 22 F3
     ∷ record {
       card = second_open;
       turns =
           choose_key_of 0xA4 0x11 0x00 ⇒ sw 0x9000
-          ∷ authenticate_byte ⇒ hands 1 0x1100 (block (0x41 ∷ []))
-          ∷ withdrawing ⇒ sw 0x6400
+          ∷ authenticate ⇒ hands 1 0x1100 (block (0x41 ∷ []))
+          ∷ deliver_to [] ⇒ sw 0x6400
           ∷ environment 1 ⇒ sw 0x9000
-          ∷ authenticate_byte ⇒ hands 1 0x1200 (block (0x41 ∷ []))
+          ∷ authenticate ⇒ hands 1 0x1200 (block (0x41 ∷ []))
           ∷ [];
       codes = marks true true true;
     }

@@ -1,15 +1,15 @@
 -- Document 02, wish 6: a limit on unblocking.
 use Rattle.std.specs.Prelude.{ℕ, ◌≡◌, Bool, true, false, List, [], ◌∷◌, ◌++◌, map, length, take, replicate}
+use Rattle.octets.specs.Octets.{Bytes}
 use Rattle.rules.specs.declared.Card.{Card}
-use Rattle.rules.specs.Codes.{PUK, PIN1, PIN2, lowered}
+use Rattle.rules.specs.Codes.{PUK, PIN1, PIN2, storing, no_limit, lowered}
 use Rattle.rules.specs.Session.{with_held}
 use Rattle.rules.specs.Counting.{Call, Command, PowerReset, next, after}
 use Rattle.rules.specs.Sample.{sample_card, puk, pin1, pin2}
-use Rattle.rules.specs.State.{with_counts}
-use Rattle.rules.specs.Cases.{Seen, code, is_reset, refuses, asking, verify_of, wrong_pin1, sign_sha1, sign_job, sw}
-use Rattle.rules.specs.Cases.{send, deliver_to, withdrawing, choose_key_of, decipher_part}
-use Rattle.cases.specs.SecondCard.{second_puk, second_pin1, second_pin2}
-use Rattle.cases.specs.Turns.{Turn, Run, ◌⇒◌, Shown, tries, marks, bare, sending, fives, nines, sample_tries}
+use Rattle.rules.specs.Cases.{Seen, with_counts, code, is_reset, refuses, asking, verify_of, wrong_pin1, sign_sha1, sign_job, sw}
+use Rattle.rules.specs.Cases.{send, with_body, deliver_to, choose_key_of, decipher_part}
+use Rattle.cases.specs.SecondCard.{second_card, second_puk, second_pin1, second_pin2}
+use Rattle.cases.specs.Turns.{Turn, Run, ◌⇒◌, Shown, tries, marks, bare, sending, fives, nines, with_codes, sample_tries}
 use Rattle.cases.specs.Turns.{sample_marks, second_tries, waiting, with_session, at, in_environment, chained, with_le, select_root, select_directory}
 use Rattle.cases.specs.Turns.{counted, select_file, record_read, get_response, environment}
 use Rattle.cases.specs.UnblockingCases.{unblock, unblock_with, blocked}
@@ -30,21 +30,21 @@ limited_to a b verified = with_counts (blocked 3 verified) (a ∷ b ∷ [])
 unfoldable pub limits : List Limited
 limits =
     -- at 0 it is 6983, before the PUK is looked at: right, wrong, short, with a bad new PIN; not verified and verified
-    limited (limited_to 0 0xA5 false) (
+    limited (limited_to 0 no_limit false) (
     unblock_with PIN1 puk (fives 4) ⇒ sw 0x6983
     ∷ unblock_with PIN1 (nines 8) (fives 4) ⇒ sw 0x6983
     ∷ unblock_with PIN1 (take 7 puk) [] ⇒ sw 0x6983
     ∷ unblock_with PIN1 puk (fives 1) ⇒ sw 0x6983
     ∷ unblock PIN1 ⇒ sw 0x6983
     ∷ []
-    ) (tries 3 0 0) 0 0xA5
-    ∷ limited (limited_to 0xA5 0 true) (
+    ) (tries 3 0 0) 0 no_limit
+    ∷ limited (limited_to no_limit 0 true) (
     unblock PIN2 ⇒ sw 0x6983
     ∷ unblock_with PIN2 (nines 8) (fives 5) ⇒ sw 0x6983
     ∷ unblock_with PIN2 puk (fives 5) ⇒ sw 0x6983
     ∷ asking PUK ⇒ sw 0x9000
     ∷ []
-    ) (code PUK 3 true ∷ code PIN1 0 false ∷ code PIN2 0 false ∷ []) 0xA5 0
+    ) (code PUK 3 true ∷ code PIN1 0 false ∷ code PIN2 0 false ∷ []) no_limit 0
     -- with a PUK that has one try left, or none
     ∷ limited (with_counts (blocked 1 false) (0 ∷ 0 ∷ [])) (
     unblock_with PIN1 (nines 8) (fives 4) ⇒ sw 0x6983
@@ -70,7 +70,7 @@ limits =
     ∷ limited (limited_to 2 3 true) (unblock PIN2 ⇒ sw 0x9000 ∷ []) (tries 3 0 3) 2 2
     ∷ limited (limited_to 2 3 false) (unblock_with PIN2 puk (fives 5) ⇒ sw 0x9000 ∷ []) (tries 3 0 3) 2 2
     -- until it is 0
-    ∷ limited (limited_to 1 0xA5 false) (
+    ∷ limited (limited_to 1 no_limit false) (
     unblock_with PIN1 puk pin1 ⇒ sw 0x9000
     ∷ wrong_pin1 ⇒ sw 0x63C2
     ∷ wrong_pin1 ⇒ sw 0x63C1
@@ -80,19 +80,19 @@ limits =
     ∷ unblock PIN1 ⇒ sw 0x6983
     ∷ unblock PIN2 ⇒ sw 0x9000
     ∷ []
-    ) (tries 3 0 3) 0 0xA5
+    ) (tries 3 0 3) 0 no_limit
     -- A4h is lowered, A5h is not
-    ∷ limited (limited_to 0xA4 0xA5 false) (
+    ∷ limited (limited_to 0xA4 no_limit false) (
     unblock_with PIN1 puk (fives 4) ⇒ sw 0x9000
     ∷ unblock_with PIN2 puk (fives 5) ⇒ sw 0x9000
     ∷ []
-    ) (tries 3 3 3) 0xA3 0xA5
-    ∷ limited (limited_to 0xA5 0xA4 true) (
+    ) (tries 3 3 3) 0xA3 no_limit
+    ∷ limited (limited_to no_limit 0xA4 true) (
     unblock PIN1 ⇒ sw 0x9000
     ∷ verify_of PUK puk ⇒ sw 0x9000
     ∷ unblock PIN2 ⇒ sw 0x9000
     ∷ []
-    ) (tries 3 3 3) 0xA5 0xA3
+    ) (tries 3 3 3) no_limit 0xA3
     -- no other answer moves it: 63Cx, 6A80, 6983 of the PUK; 6982; 6A86; steps 1 to 6
     ∷ limited (limited_to 2 2 true) (
     unblock_with PIN1 (nines 8) (fives 4) ⇒ sw 0x63C2
@@ -152,8 +152,7 @@ each card calls = map (λ x. (next (with_counts card (2 ∷ 7 ∷ [])) x).counts
 abbrev pub opened : Card
 opened = sample_marks true true true
 
--- No other command moves them, answered 9000, with data, by a job or by a refusal; nor a delivery, a withdrawal, a reset,
--- an edge refusal.
+-- No other command moves them, answered 9000, with data, by a job or by a refusal; nor a delivery, a reset, an edge refusal.
 unfoldable pub kept : List (List ℕ)
 kept =
     each opened (
@@ -204,7 +203,6 @@ kept =
     ∷ Command (0x00 ∷ 0x2C ∷ 0x03 ∷ 0x01 ∷ []) (0x30 ∷ []) (0x30 ∷ []) (replicate 257 0x90)
     ∷ Command (0x00 ∷ 0x2C ∷ 0x03 ∷ 0x01 ∷ []) [] (0x30 ∷ []) (replicate 258 0x90)
     ∷ deliver_to (replicate 256 0x5A)
-    ∷ withdrawing
     ∷ PowerReset
     ∷ []
     )
@@ -251,10 +249,10 @@ kept =
     ++ (each (blocked 1 false) (unblock_with PIN1 (nines 8) (fives 4) ∷ unblock_with PIN2 (nines 8) (fives 5) ∷ [])
     ++ (each (blocked 3 false) (unblock_with PIN1 puk (fives 3) ∷ unblock_with PIN2 puk (fives 4) ∷ unblock PIN1 ∷ unblock PIN2 ∷ [])
     ++ (each opened (unblock PIN1 ∷ unblock PIN2 ∷ unblock_with PIN1 puk (fives 4) ∷ [])
-    -- a delivery, of 256 bytes and of none; a withdrawal; edge 4; a reset
-    ++ (each (waiting 1 0x1100 0 opened) (deliver_to (replicate 256 0x5A) ∷ deliver_to [] ∷ withdrawing ∷ sign_sha1 ∷ PowerReset ∷ [])
-    ++ (each (waiting 2 0x0100 256 opened) (deliver_to (replicate 256 0x5A) ∷ withdrawing ∷ [])
-    ++ each (waiting 3 0x1100 256 opened) (deliver_to (0x00 ∷ 0x02 ∷ (replicate 8 0x01 ++ replicate 246 0x00)) ∷ deliver_to (replicate 256 0x5A) ∷ withdrawing ∷ [])))))))))))))))))
+    -- a delivery, of 256 bytes and of none; edge 4; a reset
+    ++ (each (waiting 1 0x1100 0 opened) (deliver_to (replicate 256 0x5A) ∷ deliver_to [] ∷ sign_sha1 ∷ PowerReset ∷ [])
+    ++ (each (waiting 2 0x0100 256 opened) (deliver_to (replicate 256 0x5A) ∷ [])
+    ++ each (waiting 3 0x1100 256 opened) (deliver_to (0x00 ∷ 0x02 ∷ (replicate 8 0x01 ++ replicate 246 0x00)) ∷ deliver_to (replicate 256 0x5A) ∷ [])))))))))))))))))
 
 -- What is seen, and the counts that are left.
 -- Every count after an unblocking: one less from 1 to A4h, and 0 and A5h as they are.

@@ -4,7 +4,7 @@ use Rattle.rules.specs.declared.Header.{Header}
 use Rattle.rules.specs.declared.Parsed.TheVariants.{Form, Malformed}
 use Rattle.rules.specs.declared.JobKind.TheVariants.{Authenticate, Sign, Decipher}
 use Rattle.rules.specs.declared.Refusal.TheVariants.{BadState, ShortBuffer, CertificateLength, JobWaiting}
-use Rattle.rules.specs.declared.Refusal.TheVariants.{NoJobWaiting, ResultLength}
+use Rattle.rules.specs.declared.Refusal.TheVariants.{NoJobWaiting}
 use Rattle.rules.specs.declared.Reply.TheVariants.{Refused, Response, HandedOut, WasReset}
 use Rattle.rules.specs.declared.Fault.TheVariants.{EndsEarly, WrongCount, BadCode, BadKey, BadReference}
 use Rattle.rules.specs.declared.Fault.TheVariants.{RecordLength, LeftOver, UnblockingCount}
@@ -22,10 +22,10 @@ verify_header = record { cla = 0x00; ins = 0x20; p1 = 0x00; p2 = 0x01; lc = 4; l
 pub record NumbersShown : Type 0 where
   -- kinds: 1 authenticate, 2 sign, 3 decipher
   pub kinds : map kind_number (Authenticate ∷ Sign ∷ Decipher ∷ []) ≡ 1 ∷ 2 ∷ 3 ∷ []
-  -- edge refusals 1 to 6 (6 since 02, wish 7)
+  -- edge refusals 1 to 5
   pub refusals :
-      map refusal_number (BadState ∷ ShortBuffer ∷ CertificateLength ∷ JobWaiting ∷ NoJobWaiting ∷ ResultLength ∷ [])
-      ≡ 1 ∷ 2 ∷ 3 ∷ 4 ∷ 5 ∷ 6 ∷ []
+      map refusal_number (BadState ∷ ShortBuffer ∷ CertificateLength ∷ JobWaiting ∷ NoJobWaiting ∷ [])
+      ≡ 1 ∷ 2 ∷ 3 ∷ 4 ∷ 5 ∷ []
   -- load's numbers: 21 ends early; 22 count; 23 code; 24 key; 25 reference; 26 record length; 27 bytes left over;
   -- 28 unblocking count (02, wish 6)
   pub faults :

@@ -6,7 +6,7 @@ use Rattle.rules.specs.Codes.{PUK, PIN1, PIN2}
 use Rattle.rules.specs.Session.{with_held}
 use Rattle.rules.specs.Counting.{Call, Command, PowerReset, next}
 use Rattle.rules.specs.Sample.{sample_card, puk, pin1, pin2}
-use Rattle.rules.specs.Cases.{shows, send, deliver_to, withdrawing, verify_of, sign_sha1, choose_key_of, decipher_part, sw, fresh}
+use Rattle.rules.specs.Cases.{shows, send, deliver_to, verify_of, sign_sha1, choose_key_of, decipher_part, sw, fresh}
 use Rattle.rules.specs.Cases.{buffer, refuses}
 use Rattle.cases.specs.SecondCard.{second_card, text}
 use Rattle.cases.specs.Turns.{Fact, ◌is◌, Holds, Run, ◌⇒◌, from, Shown, tries, in_class, bare, with_le, sending}
@@ -115,7 +115,6 @@ keeping =
     ∷ left_by pending (Command [] (0x30 ∷ []) (0x30 ∷ []) (replicate 257 0xEE)) is left 10 255
     ∷ left_by pending (Command [] [] (0x30 ∷ []) buffer) is left 10 255
     ∷ left_by pending (deliver_to []) is left 10 255
-    ∷ left_by pending withdrawing is left 10 255
     ∷ []
 
 pub record PendingShown : Type 0 where

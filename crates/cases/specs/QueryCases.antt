@@ -2,10 +2,10 @@
 use Rattle.std.specs.Prelude.{ℕ, ◌≡◌, Bool, true, false, List, [], ◌∷◌, replicate}
 use Rattle.rules.specs.declared.Card.{Card}
 use Rattle.rules.specs.Codes.{PUK, PIN1, PIN2, storing}
-use Rattle.rules.specs.Counting.{Withdrawal, Call, PowerReset, is_command, queries as isQuery, trace}
+use Rattle.rules.specs.Counting.{Call, PowerReset, is_command, queries as isQuery, trace}
 use Rattle.rules.specs.CodeSheet.{asks_about, asks_plainly, blocked_status, query_status}
 use Rattle.rules.specs.Sample.{sample_card, puk, pin1, pin2}
-use Rattle.rules.specs.Cases.{Seen, code, refuses, send, deliver_to, withdrawing, verify_of, asking, wrong_pin1, sign_sha1, sign_job, sw, fresh}
+use Rattle.rules.specs.Cases.{Seen, code, refuses, send, deliver_to, verify_of, asking, wrong_pin1, sign_sha1, sign_job, sw, fresh}
 use Rattle.cases.specs.SecondCard.{second_card, second_pin2}
 use Rattle.cases.specs.Turns.{Run, ◌⇒◌, from, Shown, tries, marks, in_class, bare, with_le, sending, fives, nines}
 use Rattle.cases.specs.Turns.{with_codes, sample_tries, sample_marks, second_tries, word_on, Fact, ◌is◌, Holds}
@@ -61,14 +61,14 @@ queries =
           ∷ [];
       codes = marks false true false;
     }
-    -- while a job waits it is refused with 4; after the withdrawal's 6400 PIN2 is closed
+    -- while a job waits it is refused with 4; after the delivery's 6400 PIN2 is closed
     ∷ record {
       card = sample_card;
       turns =
           verify_of PIN2 pin2 ⇒ sw 0x9000
           ∷ sign_sha1 ⇒ sign_job
           ∷ asking PIN2 ⇒ refuses 4
-          ∷ withdrawing ⇒ sw 0x6400
+          ∷ deliver_to [] ⇒ sw 0x6400
           ∷ asking PIN2 ⇒ sw 0x63C3
           ∷ sign_sha1 ⇒ sw 0x6982
           ∷ [];
@@ -120,8 +120,7 @@ queries =
     ∷ []
 
 -- Which calls ask, by their bytes: a VERIFY without data, whatever its class, P1, P2 and Le. A VERIFY with data does
--- not, nor another command without data, nor a length form that step 1 refuses, nor a delivery or a
--- withdrawal with a query's bytes.
+-- not, nor another command without data, nor a length form that step 1 refuses, nor a delivery of a query's bytes.
 abbrev pub asks : Call → Bool
 asks = is_command isQuery
 
@@ -141,7 +140,6 @@ asking_calls =
     ∷ asks (send (0x00 ∷ 0x20 ∷ 0x00 ∷ [])) is false
     ∷ asks (send (0x00 ∷ 0x20 ∷ 0x00 ∷ PIN1 ∷ 0x00 ∷ 0x00 ∷ [])) is false
     ∷ asks (deliver_to (0x00 ∷ 0x20 ∷ 0x00 ∷ PIN1 ∷ [])) is false
-    ∷ asks (Withdrawal (0x00 ∷ 0x20 ∷ 0x00 ∷ PIN1 ∷ [])) is false
     ∷ asks PowerReset is false
     -- about the code that P2 names; 6983 says that it is blocked
     ∷ is_command (asks_about PIN1) (asking PIN1) is true

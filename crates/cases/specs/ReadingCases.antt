@@ -6,7 +6,7 @@ use Rattle.rules.specs.Numbers.{Returned, edge, responded, handed_out, was_reset
 use Rattle.rules.specs.Session.{with_environment}
 use Rattle.rules.specs.Judgement.{judge}
 use Rattle.rules.specs.Edge.{Result}
-use Rattle.rules.specs.Counting.{Call, Command, Delivery, Withdrawal, PowerReset, step, is_command}
+use Rattle.rules.specs.Counting.{Call, Command, Delivery, PowerReset, step, is_command}
 use Rattle.rules.specs.Demands.{refusal_status, asks_for_more_than}
 use Rattle.rules.specs.Reading.{read_at, returned_data, whole_block, Collected, stopped, unfinished, read_blocks, last_word}
 use Rattle.rules.specs.Sample.{sample_card}
@@ -166,7 +166,6 @@ words =
     ∷ asks 1 (send (0x0C ∷ 0xB0 ∷ 0x00 ∷ 0x00 ∷ 0xFF ∷ [])) is false
     ∷ asks 1 (with_le 0xB1 0x00 0x00 0xFF) is false
     ∷ asks 1 (Delivery (replicate 256 0x00) buffer) is false
-    ∷ asks 1 (Withdrawal (0x00 ∷ 0xB0 ∷ 0x00 ∷ 0x00 ∷ 0x02 ∷ [])) is false
     ∷ asks 1 PowerReset is false
     -- every other word of document 01
     ∷ map (λ word. refusal_status word is true) (

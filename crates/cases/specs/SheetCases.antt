@@ -6,11 +6,12 @@ use Rattle.rules.specs.Numbers.{edge, was_reset}
 use Rattle.rules.specs.Codes.{PUK, PIN1, PIN2, storing, code_of}
 use Rattle.rules.specs.Answers.{code_status}
 use Rattle.rules.specs.CodeCommands.{unblocked, LeavesClosed}
-use Rattle.rules.specs.Counting.{Withdrawal, PowerReset}
+use Rattle.rules.specs.Counting.{PowerReset}
 use Rattle.rules.specs.CodeSheet.{opens, closes, verified_after, count_after}
-use Rattle.rules.specs.Cases.{asking, sign_sha1, withdrawing}
-use Rattle.cases.specs.Turns.{fives, authenticate, sample_marks, Fact, ◌is◌, Holds}
+use Rattle.rules.specs.Cases.{asking, sign_sha1}
+use Rattle.cases.specs.Turns.{fives, sample_marks, Fact, ◌is◌, Holds}
 use Rattle.cases.specs.CountCases.{answered, handed, refused_with, verifying, changing, presenting, unblocking}
+use Rattle.cases.specs.ChangeCases.{authenticate}
 
 -- What opens a code, and what closes it, by the code sheet.
 unfoldable pub moved : List (Fact Bool)
@@ -41,10 +42,6 @@ moved =
     ∷ closes PUK (answered (presenting PIN2) 0x63 0xC1) is true
     ∷ closes PIN2 (answered (presenting PIN2) 0x63 0xC1) is false
     ∷ closes PUK (answered (unblocking PIN1) 0x6A 0x86) is false
-    ∷ opens PIN2 (answered (Withdrawal (0x00 ∷ 0x20 ∷ 0x00 ∷ PIN2 ∷ 0x05 ∷ fives 5)) 0x90 0x00) is false
-    ∷ closes PIN2 (answered withdrawing 0x64 0x00) is false
-    ∷ closes PIN2 (handed withdrawing 2) is false
-    ∷ verified_after PIN2 (answered withdrawing 0x64 0x00) false is false
     ∷ closes PIN2 (handed sign_sha1 2) is true
     ∷ closes PIN1 (handed sign_sha1 2) is false
     ∷ closes PUK (handed sign_sha1 2) is false

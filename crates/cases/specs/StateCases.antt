@@ -11,15 +11,14 @@ use Rattle.rules.specs.Numbers.{Returned, edge, responded, was_reset}
 use Rattle.rules.specs.Session.{new_session, with_environment, with_held, with_job}
 use Rattle.rules.specs.Counting.{PowerReset, step}
 use Rattle.rules.specs.Sample.{sample_card, references}
-use Rattle.rules.specs.State.{with_counts}
-use Rattle.rules.specs.Cases.{send, deliver_to, withdrawing}
+use Rattle.rules.specs.Cases.{with_counts, send, deliver_to}
 use Rattle.cases.specs.SecondCard.{second_card}
 use Rattle.cases.specs.Turns.{fives, nines, counted, with_session, with_codes, second_open, at, in_environment, chained}
 use Rattle.cases.specs.Turns.{waiting}
 
--- What an empty command, an empty delivery, a withdrawal and a reset return.
+-- What an empty command, an empty delivery and a reset return.
 abbrev pub returns : Card → List Returned
-returns c = map (λ x. (step c x).returned) (send [] ∷ deliver_to [] ∷ withdrawing ∷ PowerReset ∷ [])
+returns c = map (λ x. (step c x).returned) (send [] ∷ deliver_to [] ∷ PowerReset ∷ [])
 
 -- n zeros.
 abbrev pub zeros : ℕ → Bytes
@@ -226,15 +225,15 @@ bad =
     ∷ waiting 3 0x1100 0 (chained 1 sample_card)
     ∷ []
 
--- On a bad state a command, a delivery, a withdrawal and a reset are refused, 1.
+-- On a bad state a command, a delivery and a reset are refused, 1.
 abbrev pub BadStates : Type 0
-BadStates = map returns bad ≡ replicate (length bad) (edge 1 ∷ edge 1 ∷ edge 1 ∷ edge 1 ∷ [])
+BadStates = map returns bad ≡ replicate (length bad) (edge 1 ∷ edge 1 ∷ edge 1 ∷ [])
 
 -- The second card with three choices.
 abbrev pub second_choices : ℕ → List ℕ → Card
 second_choices n choices = with_session second_card (with_environment new_session n choices)
 
--- Good states with no job: a command is judged (6700), a delivery and a withdrawal are refused, 5, a reset is done.
+-- Good states with no job: a command is judged (6700), a delivery is refused, 5, a reset is done.
 unfoldable pub idle : List Card
 idle =
     map with_puk (allowed_codes 8) ++ map with_pin1 (allowed_codes 4) ++ map with_pin2 (allowed_codes 5)
@@ -259,7 +258,7 @@ idle =
     ∷ with_session sample_card (with_held (chained 1 sample_card).session (0x41 ∷ []))
     ∷ []
 
--- Good states with a job: a command is refused, 4, an empty delivery is, 6, a withdrawal is answered (6400), a reset is done.
+-- Good states with a job: a command is refused, 4, a delivery is judged (6400), a reset is done.
 unfoldable pub busy : List Card
 busy =
     -- each kind with each key of its class; Le none, 1 and 256
@@ -278,5 +277,5 @@ busy =
     ∷ []
 
 pub record GoodStates : Type 0 where
-  pub idle : map returns idle ≡ replicate (length idle) (responded 2 ∷ edge 5 ∷ edge 5 ∷ was_reset ∷ [])
-  pub busy : map returns busy ≡ replicate (length busy) (edge 4 ∷ edge 6 ∷ responded 2 ∷ was_reset ∷ [])
+  pub idle : map returns idle ≡ replicate (length idle) (responded 2 ∷ edge 5 ∷ was_reset ∷ [])
+  pub busy : map returns busy ≡ replicate (length busy) (edge 4 ∷ responded 2 ∷ was_reset ∷ [])

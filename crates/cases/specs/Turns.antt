@@ -96,10 +96,6 @@ fives n = replicate n 0x35
 abbrev pub nines : ℕ → Bytes
 nines n = replicate n 0x39
 
--- INTERNAL AUTHENTICATE of three bytes.
-abbrev pub authenticate : Call
-authenticate = sending 0x88 0x00 0x00 (fives 3)
-
 -- A card with another session; the sample card and the second card with other codes.
 abbrev pub with_session : Card → Session → Card
 with_session c s = record { codes = c.codes; counts = c.counts; profile = c.profile; session = s }

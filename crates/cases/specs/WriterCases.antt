@@ -10,8 +10,7 @@ use Rattle.rules.specs.Image.{load, zero_card}
 use Rattle.rules.specs.Writer.{keys_image, image_of, write}
 use Rattle.rules.specs.Counting.{PowerReset, after}
 use Rattle.rules.specs.Sample.{sample_card, sample_image, pin1, pin2, puk}
-use Rattle.rules.specs.State.{with_counts}
-use Rattle.rules.specs.Cases.{verify_of, wrong_pin1}
+use Rattle.rules.specs.Cases.{with_counts, verify_of, wrong_pin1}
 use Rattle.cases.specs.SecondCard.{second_card, second_image, second_puk, second_pin1, second_pin2}
 use Rattle.cases.specs.Turns.{fives, counted, sending, select_directory, select_file, environment, sample_tries, second_tries, second_open, at}
 use Rattle.cases.specs.Turns.{in_environment, chained, waiting, with_session, Fact, ◌is◌, Holds}

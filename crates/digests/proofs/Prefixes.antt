@@ -9,9 +9,9 @@ use Rattle.octets.specs.Octets.{Bytes, same}
 use Rattle.rules.specs.Digests.{prefixed}
 
 module _ (prefix : Bytes) (n : ℕ) (d : Bytes) where
-  pub wrong_length_lem : length d ≢ length prefix + n → false ≡ prefixed prefix n d
+  pub wrong_length : length d ≢ length prefix + n → false ≡ prefixed prefix n d
   unfolding prefixed
-  wrong_length_lem h = simp (ne_eqb (length d) (length prefix + n) h, and-false)
+  wrong_length h = simp (ne_eqb (length d) (length prefix + n) h, and-false)
 
   pub right_length : length d ≡ length prefix + n → same (take (length prefix) d) prefix ≡ prefixed prefix n d
   unfolding prefixed

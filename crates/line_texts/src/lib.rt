@@ -19,7 +19,6 @@ fn refusal_numeral(refusal: Refusal) -> u8
         Refusal::CertificateLength => b'3',
         Refusal::JobWaiting => b'4',
         Refusal::NoJobWaiting => b'5',
-        Refusal::ResultLength => b'6',
     }
 }
 

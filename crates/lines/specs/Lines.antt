@@ -3,7 +3,7 @@ use Rattle.std.specs.Prelude.{ℕ, min, [], ◌∷◌, ◌++◌}
 use Rattle.octets.specs.Octets.{Bytes, blank}
 use Rattle.rules.specs.declared.Card.{Card}
 use Rattle.rules.specs.Numbers.{Wrote}
-use Rattle.rules.specs.Edge.{Result, command, delivery, withdrawal, power_reset}
+use Rattle.rules.specs.Edge.{Result, command, delivery, power_reset}
 use Rattle.rules.specs.Image.{load}
 use Rattle.rules.specs.Writer.{write}
 use Rattle.requests.specs.declared.Dialect.{Dialect}
@@ -12,7 +12,6 @@ use Rattle.requests.specs.Requests.{
   reset,
   command_of,
   delivery_of,
-  withdrawing,
   image_of,
   saving,
   authentication_of,
@@ -56,7 +55,6 @@ unfoldable pub answer_to : Dialect → Setup → Request → CardAnswer
 answer_to d s reset = call_answer d (record { returned = (power_reset s.card).0; card = (power_reset s.card).1; buffer = [] })
 answer_to d s (command_of apdu) = call_answer d (command s.card apdu s.authentication s.signature (answer_buffer s))
 answer_to d s (delivery_of result) = call_answer d (delivery s.card result (answer_buffer s))
-answer_to d s withdrawing = call_answer d (withdrawal s.card (answer_buffer s))
 answer_to d s (image_of image) = card_answer (load image).1 (load_text (load image).0)
 answer_to d s saving = saved_answer s.card (write s.card (answer_buffer s))
 answer_to d s (authentication_of certificate) = card_answer s.card (0x41 ∷ [])
@@ -69,7 +67,6 @@ unfoldable pub setup_after : Request → Setup → Setup
 setup_after reset s = s
 setup_after (command_of apdu) s = s
 setup_after (delivery_of result) s = s
-setup_after withdrawing s = s
 setup_after (image_of image) s = s
 setup_after saving s = s
 setup_after (authentication_of certificate) s =

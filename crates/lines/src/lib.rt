@@ -1,10 +1,11 @@
 // A line of the two line programs: what an input line asks for is done, and answered by a line of output. Every public function takes
 // every input.
-ghost use Rattle.std.specs.Prelude.{◌≡◌, [], length, take};
+ghost use Rattle.std.specs.Prelude.{◌≡◌, [], min, length, take};
 ghost use Rattle.octets.specs.Octets.{blank, pasted};
-ghost use Rattle.rules.specs.Edge.{command, delivery, withdrawal, power_reset};
+ghost use Rattle.rules.specs.Edge.{command, delivery, power_reset};
 ghost use Rattle.rules.specs.Image.{load};
 ghost use Rattle.rules.specs.Writer.{write};
+ghost use Rattle.requests.specs.Requests.{most_buffer};
 ghost use Rattle.requests.specs.Meanings.{meant};
 ghost use Rattle.line_texts.specs.Texts.{load_text};
 ghost use Rattle.writing.specs.Puts.{Put};
@@ -44,19 +45,22 @@ pub struct Carried {
     pub end: usize,
 }
 
-// A command, a delivery, a withdrawal, a reset, an image to load and one to write, each answered.
+// A command, a delivery, a reset, an image to load and one to write, each answered.
 fn answer_command<'a>(
     dialect: Dialect,
     card: Card,
+    size: usize,
     apdu: &'a [u8],
     authentication: &'a [u8],
     signature: &'a [u8],
-    buffer: &mut [u8],
     output: &mut [u8],
     at: usize,
 ) -> Carried
-    ensures { Carries (call_answer dialect (command card apdu.now authentication.now signature.now buffer.old)) output.old at output.new result }
+    ensures { Carries (call_answer dialect (command card apdu.now authentication.now signature.now (blank (min size most_buffer)))) output.old at output.new result }
 {
+    let mut space = blank_4096();
+    let n = numbers::sum_within(0, size, 4096);
+    let buffer = &mut space[..n];
     let outcome = card::command(card, apdu, authentication, signature, buffer);
     let reply = outcome.reply;
     let next = outcome.card;
@@ -70,33 +74,17 @@ fn answer_command<'a>(
 fn answer_delivery(
     dialect: Dialect,
     card: Card,
+    size: usize,
     res: &[u8],
-    buffer: &mut [u8],
     output: &mut [u8],
     at: usize,
 ) -> Carried
-    ensures { Carries (call_answer dialect (delivery card res.now buffer.old)) output.old at output.new result }
+    ensures { Carries (call_answer dialect (delivery card res.now (blank (min size most_buffer)))) output.old at output.new result }
 {
+    let mut space = blank_4096();
+    let n = numbers::sum_within(0, size, 4096);
+    let buffer = &mut space[..n];
     let outcome = card::delivery(card, res, buffer);
-    let reply = outcome.reply;
-    let next = outcome.card;
-    let end = line_texts::put_line(dialect, reply, buffer, output, at);
-    Carried {
-        card: next,
-        end: end,
-    }
-}
-
-fn answer_withdrawal(
-    dialect: Dialect,
-    card: Card,
-    buffer: &mut [u8],
-    output: &mut [u8],
-    at: usize,
-) -> Carried
-    ensures { Carries (call_answer dialect (withdrawal card buffer.old)) output.old at output.new result }
-{
-    let outcome = card::withdrawal(card, buffer);
     let reply = outcome.reply;
     let next = outcome.card;
     let end = line_texts::put_line(dialect, reply, buffer, output, at);
@@ -132,9 +120,12 @@ fn answer_image(image: &[u8], output: &mut [u8], at: usize) -> Carried
     }
 }
 
-fn answer_saving(card: Card, buffer: &mut [u8], output: &mut [u8], at: usize) -> Carried
-    ensures { Carries (saved_answer card (write card buffer.old)) output.old at output.new result }
+fn answer_saving(card: Card, size: usize, output: &mut [u8], at: usize) -> Carried
+    ensures { Carries (saved_answer card (write card (blank (min size most_buffer)))) output.old at output.new result }
 {
+    let mut space = blank_4096();
+    let n = numbers::sum_within(0, size, 4096);
+    let buffer = &mut space[..n];
     let result = image_writer::write(card, buffer);
     let end = line_texts::put_saved(result, buffer, output, at);
     Carried {
@@ -154,7 +145,7 @@ fn unchanged(card: Card, text: &[u8], output: &mut [u8], at: usize) -> Carried
     }
 }
 
-// The card and the line of output. The answer buffer has the size set, at most 4,096 bytes, and zeros as a call starts.
+// The card and the line of output.
 fn carry<'a>(
     dialect: Dialect,
     meaning: Meaning,
@@ -168,9 +159,6 @@ fn carry<'a>(
 ) -> Carried
     ensures { Carries (answer_to dialect (record { card = card; authentication = authentication.now; signature = signature.now; buffer = size }) (meant meaning room.now)) output.old at output.new result }
 {
-    let mut space = blank_4096();
-    let fitting = numbers::sum_within(0, size, 4096);
-    let buffer = &mut space[..fitting];
     match meaning {
         Meaning::Reset => answer_reset(dialect, card, output, at),
         Meaning::Command(n) => {
@@ -178,20 +166,19 @@ fn carry<'a>(
             answer_command(
                 dialect,
                 card,
+                size,
                 apdu,
                 authentication,
                 signature,
-                buffer,
                 output,
                 at,
             )
         }
         Meaning::Delivery(n) => {
-            answer_delivery(dialect, card, octets::part(room, 0, n), buffer, output, at)
+            answer_delivery(dialect, card, size, octets::part(room, 0, n), output, at)
         }
-        Meaning::Withdrawal => answer_withdrawal(dialect, card, buffer, output, at),
         Meaning::Image(n) => answer_image(octets::part(room, 0, n), output, at),
-        Meaning::Saving => answer_saving(card, buffer, output, at),
+        Meaning::Saving => answer_saving(card, size, output, at),
         Meaning::Authentication(_) => unchanged(card, b"A\n", output, at),
         Meaning::Signature(_) => unchanged(card, b"S\n", output, at),
         Meaning::Buffer(_) => unchanged(card, b"B\n", output, at),
@@ -237,7 +224,6 @@ fn settled(
         Meaning::Reset => next,
         Meaning::Command(_) => next,
         Meaning::Delivery(_) => next,
-        Meaning::Withdrawal => next,
         Meaning::Image(_) => next,
         Meaning::Saving => next,
         Meaning::Other => next,

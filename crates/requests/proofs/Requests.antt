@@ -20,7 +20,6 @@ use Rattle.requests.specs.Requests.{
   reset,
   command_of,
   delivery_of,
-  withdrawing,
   image_of,
   saving,
   authentication_of,
@@ -110,36 +109,30 @@ module _ (d : Dialect) (line room : Bytes) {most : ℕ} (m : most ≡ longest d)
     unfolding request_of room_after
     is_reset_lem t = (rw (← m, le-ltb most (length line) h, ← q, t), rw (← m, le-ltb most (length line) h, ← q, t))
 
-    module _ (f : p ≡ false) {v : Bool} (u : v ≡ same line (0x57 ∷ [])) where
-      pub is_withdrawal : v ≡ true → (withdrawing ≡ request_of d line) × (room ≡ room_after d line room)
+    module _ (f : p ≡ false) {b : Bool} (i : b ≡ stands_in d) {s : Bool} (j : s ≡ same line (0x49 ∷ [])) where
+      pub is_saving : (b && s) ≡ true → (saving ≡ request_of d line) × (room ≡ room_after d line room)
       unfolding request_of room_after
-      is_withdrawal t =
-          (rw (← m, le-ltb most (length line) h, ← q, f, ← u, t), rw (← m, le-ltb most (length line) h, ← q, f, ← u, t))
+      is_saving t =
+          (rw (← m, le-ltb most (length line) h, ← q, f, ← i, ← j, t), rw (← m, le-ltb most (length line) h, ← q, f, ← i, ← j, t))
 
-      module _ (o : v ≡ false) {b : Bool} (i : b ≡ stands_in d) {s : Bool} (j : s ≡ same line (0x49 ∷ [])) where
-        pub is_saving : (b && s) ≡ true → (saving ≡ request_of d line) × (room ≡ room_after d line room)
+      module _ (g : (b && s) ≡ false) {letter : ℕ} (l : letter ≡ byte_at line 0) {rest : Bytes} (r : rest ≡ drop 1 line) where
+        pub is_size_lem : (b && eqb letter 0x42) ≡ true → {asked : Request} → asked ≡ size_request rest
+            → (asked ≡ request_of d line) × (room ≡ room_after d line room)
         unfolding request_of room_after
-        is_saving t =
-            (rw (← m, le-ltb most (length line) h, ← q, f, ← u, o, ← i, ← j, t), rw (← m, le-ltb most (length line) h, ← q, f, ← u, o, ← i, ← j, t))
+        is_size_lem t e =
+            (rw (← m, le-ltb most (length line) h, ← q, f, ← i, ← j, g, ← l, t, ← r) e, rw (← m, le-ltb most (length line) h, ← q, f, ← i, ← j, g, ← l, t))
 
-        module _ (g : (b && s) ≡ false) {letter : ℕ} (l : letter ≡ byte_at line 0) {rest : Bytes} (r : rest ≡ drop 1 line) where
-          pub is_size_lem : (b && eqb letter 0x42) ≡ true → {asked : Request} → asked ≡ size_request rest
-              → (asked ≡ request_of d line) × (room ≡ room_after d line room)
+        module _ (n : (b && eqb letter 0x42) ≡ false) {hex : Bool} (x : hex ≡ is_hex rest) where
+          pub no_hex : not hex ≡ true → (other ≡ request_of d line) × (room ≡ room_after d line room)
           unfolding request_of room_after
-          is_size_lem t e =
-              (rw (← m, le-ltb most (length line) h, ← q, f, ← u, o, ← i, ← j, g, ← l, t, ← r) e, rw (← m, le-ltb most (length line) h, ← q, f, ← u, o, ← i, ← j, g, ← l, t))
+          no_hex t =
+              (rw (← m, le-ltb most (length line) h, ← q, f, ← i, ← j, g, ← l, n, ← r, ← x, t), rw (← m, le-ltb most (length line) h, ← q, f, ← i, ← j, g, ← l, n, ← r, ← x, t))
 
-          module _ (n : (b && eqb letter 0x42) ≡ false) {hex : Bool} (x : hex ≡ is_hex rest) where
-            pub no_hex : not hex ≡ true → (other ≡ request_of d line) × (room ≡ room_after d line room)
-            unfolding request_of room_after
-            no_hex t =
-                (rw (← m, le-ltb most (length line) h, ← q, f, ← u, o, ← i, ← j, g, ← l, n, ← r, ← x, t), rw (← m, le-ltb most (length line) h, ← q, f, ← u, o, ← i, ← j, g, ← l, n, ← r, ← x, t))
-
-            pub is_hex_lem : not hex ≡ false → {asked : Request} → asked ≡ hex_request d letter (bytes_of rest) → {after : Bytes} → after ≡ pasted room 0 (bytes_of rest)
-                → (asked ≡ request_of d line) × (after ≡ room_after d line room)
-            unfolding request_of room_after
-            is_hex_lem t e w =
-                (rw (← m, le-ltb most (length line) h, ← q, f, ← u, o, ← i, ← j, g, ← l, n, ← r, ← x, t) e, rw (← m, le-ltb most (length line) h, ← q, f, ← u, o, ← i, ← j, g, ← l, n, ← r, ← x, t) w)
+          pub is_hex_lem : not hex ≡ false → {asked : Request} → asked ≡ hex_request d letter (bytes_of rest) → {after : Bytes} → after ≡ pasted room 0 (bytes_of rest)
+              → (asked ≡ request_of d line) × (after ≡ room_after d line room)
+          unfolding request_of room_after
+          is_hex_lem t e w =
+              (rw (← m, le-ltb most (length line) h, ← q, f, ← i, ← j, g, ← l, n, ← r, ← x, t) e, rw (← m, le-ltb most (length line) h, ← q, f, ← i, ← j, g, ← l, n, ← r, ← x, t) w)
 
 -- The bytes that a line's hex says, read from the room that they were written to.
 at_most : (d : Dialect) → longest d ≤ 4096
@@ -159,7 +152,6 @@ bytes_read d line m h {rest} r room size {n} {after} w =
 -- What holds of every request that a line can make holds of the one that it makes. Its bytes are bytes, at most 2,048.
 pub record Cases (d : Dialect) (P : Request → Type 0) : Type 0 where
   pub resets : P reset
-  pub withdrawals : P withdrawing
   pub savings : stands_in d ≡ true → P saving
   pub sizes : (n : ℕ) → P (buffer_of n)
   pub others : P other
@@ -186,9 +178,8 @@ module _ (P : Request → Type 0) (d : Dialect) (c : Cases d P) where
   every_request line =
       split P (ltb (longest d) (length line)) (λ _. c.others)
       (λ l. split P (same line (0x50 ∷ [])) (λ _. c.resets)
-      (λ _. split P (same line (0x57 ∷ [])) (λ _. c.withdrawals)
       (λ _. split P (stands_in d && same line (0x49 ∷ [])) (λ e. c.savings (and_left (stands_in d) (same line (0x49 ∷ [])) e))
       (λ _. split P (stands_in d && eqb (byte_at line 0) 0x42) (λ _. split P (is_size (drop 1 line)) (λ _. c.sizes (decimal (drop 1 line))) (λ _. c.others))
       (λ _. split P (not (is_hex (drop 1 line))) (λ _. c.others)
       (λ _. by_letter (byte_at line 0) (bytes_of (drop 1 line)) (bytes_of_bytes (drop 1 line))
-      (omega (arith, length_bytes_of (drop 1 line), length-drop 1 line, ltb-false (longest d) (length line) l, at_most d))))))))
+      (omega (arith, length_bytes_of (drop 1 line), length-drop 1 line, ltb-false (longest d) (length line) l, at_most d)))))))

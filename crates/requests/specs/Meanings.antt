@@ -7,7 +7,6 @@ use Rattle.requests.specs.Requests.{
   reset,
   command_of,
   delivery_of,
-  withdrawing,
   image_of,
   saving,
   authentication_of,
@@ -23,7 +22,6 @@ use Rattle.requests.specs.declared.Meaning.TheVariants.{
   Reset,
   Command,
   Delivery,
-  Withdrawal,
   Image,
   Saving,
   Authentication,
@@ -37,7 +35,6 @@ abbrev pub meant : Meaning → Bytes → Request
 meant Reset room = reset
 meant (Command n) room = command_of (take n room)
 meant (Delivery n) room = delivery_of (take n room)
-meant Withdrawal room = withdrawing
 meant (Image n) room = image_of (take n room)
 meant Saving room = saving
 meant (Authentication n) room = authentication_of (take n room)
@@ -50,8 +47,7 @@ unfoldable pub room_after : Dialect → Bytes → Bytes → Bytes
 room_after d line room =
     cond (ltb (longest d) (length line)) room
     (cond (same line (0x50 ∷ [])) room
-    (cond (same line (0x57 ∷ [])) room
     (cond (stands_in d && same line (0x49 ∷ [])) room
     (cond (stands_in d && eqb (byte_at line 0) 0x42) room
     (cond (not (is_hex (drop 1 line))) room
-    (pasted room 0 (bytes_of (drop 1 line))))))))
+    (pasted room 0 (bytes_of (drop 1 line)))))))

@@ -1,5 +1,5 @@
--- What a line of the two line programs asks for: document 01's transcript program ("Cases"), with document 02's line for a withdrawal; and
--- the stand-in, which has lines for an image to load or to write, the certificates and the answer buffer beside them.
+-- What a line of the two line programs asks for: document 01's transcript program ("Cases"), and the stand-in, which has lines for an
+-- image to load or to write, the certificates and the answer buffer beside them.
 use Rattle.std.specs.Prelude.{ℕ, ◌+◌, ◌-◌, ◌*◌, Bool, true, false, cond, not, ◌&&◌, ◌||◌, [], ◌∷◌, length, drop, eqb, leb, ltb}
 use Rattle.octets.specs.Octets.{Bytes, byte_at, same, every, all_digits}
 use Rattle.hex.specs.Hex.{is_hex, bytes_of}
@@ -25,7 +25,6 @@ pub data Request : Type 0 where
   reset : Request
   command_of : Bytes → Request
   delivery_of : Bytes → Request
-  withdrawing : Request
   image_of : Bytes → Request
   saving : Request
   authentication_of : Bytes → Request
@@ -73,14 +72,13 @@ hex_request d letter bytes =
     (cond (eqb letter 0x44) (delivery_of bytes)
     (cond (stands_in d) (further_request letter bytes) other))
 
--- P is a reset, W a withdrawal (02, wish 7); I asks for the card's image; B and a number the size of the answer buffer; the other letters
--- have upper-case hex of whole bytes, perhaps none. Other lines, and those that are too long, ask for nothing.
+-- P is a reset; I asks for the card's image; B and a number the size of the answer buffer; the other letters have upper-case hex of whole
+-- bytes, perhaps none. Other lines, and those that are too long, ask for nothing.
 unfoldable pub request_of : Dialect → Bytes → Request
 request_of d line =
     cond (ltb (longest d) (length line)) other
     (cond (same line (0x50 ∷ [])) reset
-    (cond (same line (0x57 ∷ [])) withdrawing
     (cond (stands_in d && same line (0x49 ∷ [])) saving
     (cond (stands_in d && eqb (byte_at line 0) 0x42) (size_request (drop 1 line))
     (cond (not (is_hex (drop 1 line))) other
-    (hex_request d (byte_at line 0) (bytes_of (drop 1 line))))))))
+    (hex_request d (byte_at line 0) (bytes_of (drop 1 line)))))))

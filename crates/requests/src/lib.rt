@@ -37,7 +37,6 @@ pub enum Meaning {
     Reset,
     Command(usize),
     Delivery(usize),
-    Withdrawal,
     Image(usize),
     Saving,
     Authentication(usize),
@@ -130,9 +129,6 @@ pub fn asked(dialect: Dialect, line: &[u8], room: &mut [u8; 2048]) -> Meaning
     }
     if octets::equal(line, b"P") {
         return Meaning::Reset;
-    }
-    if octets::equal(line, b"W") {
-        return Meaning::Withdrawal;
     }
     let further = stands_in(dialect);
     if further & octets::equal(line, b"I") {

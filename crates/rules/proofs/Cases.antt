@@ -19,8 +19,8 @@ use Rattle.rules.specs.Digests.{prefixed, is_digest}
 use Rattle.rules.specs.KeyCommands.{set_environment, kind_chosen, choose_key, internal_authenticate, sign, decipher}
 use Rattle.rules.specs.Judgement.{instruction, parameters, lengths, own_rules, known_instruction, named_in}
 use Rattle.rules.specs.Judgement.{judge_named, judge_header, judge_form, judge}
-use Rattle.rules.specs.Delivery.{deliver, withdraw}
-use Rattle.rules.specs.Edge.{response_in, written, command, delivery, withdrawal, power_reset}
+use Rattle.rules.specs.Delivery.{deliver}
+use Rattle.rules.specs.Edge.{response_in, written, command, delivery, power_reset}
 use Rattle.rules.specs.Image.{byte_if, bytes_if, read_code, code_section, read_key, read_keys, key_section}
 use Rattle.rules.specs.Image.{reference_section, read_personal, read_records, personal_section, count_section}
 use Rattle.rules.specs.Image.{read_counts, end, read_card, loaded, load}
@@ -31,11 +31,11 @@ use Rattle.rules.specs.Sample.{sample_card, sample_image, SampleLoads}
 use Rattle.rules.specs.Cases.{on_card, padding, cases, PCases, limited, LimitShown, writings, WritingsShown}
 
 pub p_cases : PCases
-unfolding cases on_card padding sample_card step command delivery withdrawal power_reset written response_in returned_status good good_codes good_counts good_profile good_session good_code good_room good_references good_records good_selection good_environment good_job files_in present of_class active_key key_for new_session blank filled least allowed parse judge judge_form judge_header known_instruction instruction named_in parameters judge_named lengths own_rules verify change reset_retry counts_left lowered unblocked unblock_by_verified_puk unblock_by_presented_puk verdict judged queried replaced select read_record read_status read_binary get_response give more_bytes record_count record_of counter_record pin_record puk_record certificate_of set_environment kind_chosen choose_key internal_authenticate sign decipher is_digest prefixed padded cannot_pad pad deliver withdraw strip enciphered before_zero personal_record
+unfolding cases on_card padding sample_card step command delivery power_reset written response_in returned_status good good_codes good_counts good_profile good_session good_code good_room good_references good_records good_selection good_environment good_job files_in present of_class active_key key_for new_session blank filled least allowed parse judge judge_form judge_header known_instruction instruction named_in parameters judge_named lengths own_rules verify change reset_retry counts_left lowered unblocked unblock_by_verified_puk unblock_by_presented_puk verdict judged queried replaced select read_record read_status read_binary get_response give more_bytes record_count record_of counter_record pin_record puk_record certificate_of set_environment kind_chosen choose_key internal_authenticate sign decipher is_digest prefixed padded cannot_pad pad deliver strip enciphered before_zero personal_record
 p_cases = refl
 
 pub limit_shown : LimitShown
-unfolding limited on_card sample_card sample_image load loaded read_card code_section key_section reference_section personal_section read_code read_key read_keys read_records read_personal read_counts count_section end byte_if bytes_if count_at_load behind_records step command delivery withdrawal power_reset written response_in returned_status good good_codes good_counts good_profile good_session good_code good_room good_references good_records good_selection good_environment good_job files_in present of_class active_key key_for new_session blank filled least allowed parse judge judge_form judge_header known_instruction instruction named_in parameters judge_named lengths own_rules verify change reset_retry counts_left lowered unblocked unblock_by_verified_puk unblock_by_presented_puk verdict judged queried replaced select read_record read_status read_binary get_response give more_bytes record_count record_of counter_record pin_record puk_record certificate_of set_environment kind_chosen choose_key internal_authenticate sign decipher is_digest prefixed padded cannot_pad pad deliver withdraw strip enciphered before_zero personal_record
+unfolding limited on_card sample_card sample_image load loaded read_card code_section key_section reference_section personal_section read_code read_key read_keys read_records read_personal read_counts count_section end byte_if bytes_if count_at_load behind_records step command delivery power_reset written response_in returned_status good good_codes good_counts good_profile good_session good_code good_room good_references good_records good_selection good_environment good_job files_in present of_class active_key key_for new_session blank filled least allowed parse judge judge_form judge_header known_instruction instruction named_in parameters judge_named lengths own_rules verify change reset_retry counts_left lowered unblocked unblock_by_verified_puk unblock_by_presented_puk verdict judged queried replaced select read_record read_status read_binary get_response give more_bytes record_count record_of counter_record pin_record puk_record certificate_of set_environment kind_chosen choose_key internal_authenticate sign decipher is_digest prefixed padded cannot_pad pad deliver strip enciphered before_zero personal_record
 limit_shown = record { runs = refl; loads = refl; counts = refl }
 
 pub writings_shown : WritingsShown

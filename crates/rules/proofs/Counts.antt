@@ -1,5 +1,6 @@
 -- What moves a PIN's unblocking count: the sheet's column holds of every call on every card. And the sheet, whole.
 use mathlib.Core.Path.{◌≡◌, refl, ap, ◌∙◌}
+use mathlib.Core.Logic.{◌≢◌}
 use mathlib.Core.Bool.{true, false, not, cond, ◌&&◌, ◌||◌, and-false, and-true}
 use mathlib.Core.List.{List, []}
 use Prim.Native.Nat.{ℕ, ◌-◌, ◌≤◌, ◌<◌}
@@ -22,18 +23,17 @@ use Rattle.rules.specs.Codes.{code_of, count_of, with_count, lowered}
 use Rattle.rules.specs.Apdu.{parse, data_of}
 use Rattle.rules.specs.Session.{drop_both}
 use Rattle.rules.specs.State.{good, good_counts}
-use Rattle.rules.specs.Answers.{Answer, response, Step, code_status, in_codes}
+use Rattle.rules.specs.Answers.{Answer, response, job, Step, code_status, in_codes}
 use Rattle.rules.specs.CodeCommands.{reset_retry, counts_left}
 use Rattle.rules.specs.Judgement.{instruction, parameters, lengths, own_rules, refusal, known_instruction, named_in, judge_named}
 use Rattle.rules.specs.Judgement.{judge_header, judge_form, judge}
 use Rattle.rules.specs.Edge.{Result, refuse, written, answered, command, power_reset}
-use Rattle.rules.specs.Counting.{Call, Command, Delivery, Withdrawal, PowerReset, step, exchange, exchange_of, status_word}
-use Rattle.rules.specs.Counting.{returned_status}
+use Rattle.rules.specs.Counting.{Call, Command, Delivery, PowerReset, step, exchange, exchange_of, status_word, returned_status}
 use Rattle.rules.specs.Counting.{form_sends, sent_by, read_off, is_command, ok_status, unblocks, unblocking}
 use Rattle.rules.specs.CodeSheet.{CodeSheet, CountColumn, unblocks_plainly, used_up_status}
-use Rattle.rules.proofs.StatusWords.{status_read, card_written, word_written}
+use Rattle.rules.proofs.StatusWords.{status_read}
 use Rattle.rules.proofs.Parts.{good_counts_lem, two_counts}
-use Rattle.rules.proofs.Walks.{sign_walk, reset_retry_walk, command_walk, delivery_walk, withdrawal_walk}
+use Rattle.rules.proofs.Walks.{sign_walk, reset_retry_walk, command_walk, delivery_walk}
 use Rattle.rules.proofs.Forms.{refusal_6700, asked}
 use Rattle.rules.proofs.Keeping.{header_walk, reset_code}
 use Rattle.rules.proofs.Queries.{asked_about}
@@ -49,16 +49,25 @@ unmoved k c x o same none codes = record {
 }
 
 module _ (k : ℕ) (c : Card) (x : Call) (w : Bytes) where
+  card_written : (c' : Card) (a : Answer) → (written w c' a).card ≡ c'
+  unfolding written
+  card_written c' (response d sw) = refl
+  card_written c' (job kind key block) = refl
+
+  word_told : (c' : Card) (sw : ℕ) → status_word (exchange_of x (written w c' (response [] sw))) ≡ sw
+  unfolding written
+  word_told c' sw = status_read w sw
+
   -- a call that is no 2C for PIN k, and leaves the counts
   other_call : (c' : Card) (a : Answer) → c'.counts ≡ c.counts → is_command (unblocks k) x ≡ false → CountColumn k c x (written w c' a)
   other_call c' a e u =
-      unmoved k c x (written w c' a) (ap (λ (d : Card). d.counts) (card_written w c' a) ∙ e) (rw (u, and-false)) (never u)
+      unmoved k c x (written w c' a) (ap (λ (d : Card). d.counts) (card_written c' a) ∙ e) (rw (u, and-false)) (never u)
 
   -- a status word that is not 9000, codes and counts as they were
   refused_word : (c' : Card) (sw : ℕ) → c'.codes ≡ c.codes → c'.counts ≡ c.counts → ok_status sw ≡ false
       → CountColumn k c x (written w c' (response [] sw))
   unfolding written
-  refused_word c' sw codes counts n = unmoved k c x _ counts (rw (ap ok_status (word_written x w c' sw) ∙ n)) (λ _. codes)
+  refused_word c' sw codes counts n = unmoved k c x _ counts (rw (ap ok_status (word_told c' sw) ∙ n)) (λ _. codes)
 
   edge_refusal_lem : (n : ℕ) → CountColumn k c x (refuse c w n)
   unfolding returned_status ok_status
@@ -124,7 +133,7 @@ module _ (k : ℕ) (low : 1 ≤ k) (c : Card) (g : good_counts c.counts ≡ true
         let n : List ℕ = counts_left c.counts h.p2 o.sw in
         let c' : Card = record { codes = o.codes; counts = n; profile = c.profile; session = drop_both c.session } in
         let tested : unblocking k (exchange_of x (written w c' (response [] o.sw))) ≡ (ok_status o.sw && eqb h.p2 k) =
-        rw (word_written x w c' o.sw, names_pin) in
+        rw (word_told k c x w c' o.sw, names_pin) in
         let this : (ok_status o.sw && eqb h.p2 k) ≡ true → h.p2 ≡ k = λ e. eqb-true _ _ (and_right (ok_status o.sw) _ e) in
         record {
           count = rw tested (count_after_lem c.counts g h.p2 k p1 p3 low o.sw);
@@ -176,10 +185,7 @@ unfolding step sent_by read_off
 count_column k low c (Command b auth sig w) = command_column k low c b auth sig w
 count_column k low c (Delivery r w) =
     delivery_walk (CountColumn k c (Delivery r w)) c r w (edge_refusal_lem k c (Delivery r w) w)
-    (λ _ _ _. other_call k c (Delivery r w) w _ _ refl refl)
-count_column k low c (Withdrawal w) =
-    withdrawal_walk (CountColumn k c (Withdrawal w)) c w (edge_refusal_lem k c (Withdrawal w) w)
-    (λ _ _. other_call k c (Withdrawal w) w _ _ refl refl)
+    (λ _ _. other_call k c (Delivery r w) w _ _ refl refl)
 count_column k low c PowerReset =
     unfold power_reset returned_status ok_status in
     split (λ (o : Returned × Card). CountColumn k c PowerReset (record { returned = o.0; card = o.1; buffer = [] })) (not (good c))
@@ -228,7 +234,6 @@ used_up_lem k low high c (Command b auth sig w) e blocked zero = in_form (parse 
     in_form (form h start) p plain = used_up_form k low high c b auth sig w h start p (unfold form_sends read_off in plain) blocked zero
     in_form (refused sw) p plain = never refl (unfold form_sends read_off in plain)
 used_up_lem k low high c (Delivery r w) e blocked zero = never refl e
-used_up_lem k low high c (Withdrawal w) e blocked zero = never refl e
 used_up_lem k low high c PowerReset e blocked zero = never refl e
 
 -- The sheet.

@@ -1,6 +1,6 @@
 -- Demand 1: what a call on any card refuses, writes and leaves.
 use mathlib.Core.Path.{◌≡◌, refl, sym, ap, ◌∙◌}
-use mathlib.Core.Bool.{Bool, true, false, not, ◌||◌, or-true, false≢true}
+use mathlib.Core.Bool.{true, false, not, ◌||◌, or-true, false≢true}
 use mathlib.Core.List.{◌∷◌, ◌++◌}
 use Prim.Native.Nat.{ℕ, ◌+◌, ◌-◌, ◌≤◌}
 use native.Mathlib.Omega.{arith}
@@ -8,28 +8,27 @@ use lib.Dec.{eqb, ltb}
 use lib.ListN.{length, drop, length-append, length-drop}
 use borrow.Author.Tests.{eqb-true, eqb-false, ltb-true, ltb-false, lt-ltb, le-ltb, le-leb, eq-eqb, ne_eqb, not-true, not-false}
 use Rattle.octets.specs.Octets.{Bytes}
-use Rattle.octets.proofs.Tests.{split, by_test, or_cases, neither, never}
+use Rattle.octets.proofs.Tests.{split, by_test, or_cases, neither}
 use Rattle.rules.specs.declared.Card.{Card}
 use Rattle.rules.specs.declared.Session.{Session}
 use Rattle.rules.specs.Numbers.{Returned, edge, responded, handed_out, LengthForm, form, refused}
 use Rattle.rules.specs.Apdu.{parse}
 use Rattle.rules.specs.State.{good}
-use Rattle.rules.specs.Answers.{Answer, response, job}
+use Rattle.rules.specs.Answers.{Answer, response, job, in_session}
 use Rattle.rules.specs.Judgement.{judge_form, judge}
-use Rattle.rules.specs.Delivery.{withdraw}
+use Rattle.rules.specs.Delivery.{deliver}
 use Rattle.rules.specs.Edge.{Result, refuse, response_in, written, answered, short_buffer, bad_certificate, job_waits}
-use Rattle.rules.specs.Edge.{wrong_length, command, delivery, withdrawal, power_reset}
-use Rattle.rules.specs.Counting.{Call, Command, Delivery, Withdrawal, PowerReset, step, returned_status, form_sends, sent_by, read_off}
-use Rattle.rules.specs.Counting.{is_command, data_sent}
+use Rattle.rules.specs.Edge.{command, delivery, power_reset}
+use Rattle.rules.specs.Counting.{Call, Command, Delivery, PowerReset, step, returned_status, form_sends, sent_by, read_off, is_command}
+use Rattle.rules.specs.Counting.{data_sent}
 use Rattle.rules.specs.Demands.{edge_refusal}
-use Rattle.rules.specs.Demands.{buffer_of, LengthFits, Idle, Due, bad_state, command_buffer, delivery_buffer, withdrawal_buffer}
-use Rattle.rules.specs.Demands.{authentication_certificate, signature_certificate, job_waiting, nothing_to_deliver}
-use Rattle.rules.specs.Demands.{nothing_to_withdraw, result_length, withdrawal_response, job_ended}
+use Rattle.rules.specs.Demands.{buffer_of, LengthFits, Idle, Due, bad_state, command_buffer, delivery_buffer}
+use Rattle.rules.specs.Demands.{authentication_certificate, signature_certificate, job_waiting, no_job_waiting}
 use Rattle.rules.specs.Demands.{Possible, command_response, command_job, delivery_response, reset, block_of}
 use Rattle.rules.specs.Demands.{refusal_status, asks_for_more_than, Demand1, ProfileKept}
-use Rattle.rules.proofs.StatusWords.{response_rest, response_sized, response_status, card_written}
+use Rattle.rules.proofs.StatusWords.{response_rest, response_sized, response_status}
 use Rattle.rules.proofs.Forms.{refusal_6700, data_sent_lem}
-use Rattle.rules.proofs.Walks.{command_walk, delivery_walk, withdrawal_walk}
+use Rattle.rules.proofs.Walks.{command_walk, delivery_walk}
 use Rattle.rules.proofs.Keeping.{Gives, refuses, responds, hands_out, resets, FormEnded, call_may_give, call_gives}
 
 -- Two returns of different cases.
@@ -42,39 +41,22 @@ edge_of (responds x new d sw g fit room) n e = clash (cc)
 edge_of (hands_out x new kind key block g own room) n e = clash (cc)
 edge_of (resets new g) n e = clash (cc)
 
--- Every call but a withdrawal, whose response has two bytes.
-abbrev other_than_withdrawal : Call → Bool
-other_than_withdrawal (Command apdu authentication signature buffer) = true
-other_than_withdrawal (Delivery result buffer) = true
-other_than_withdrawal (Withdrawal buffer) = false
-other_than_withdrawal PowerReset = true
-
-response_possible : (x : Call) (n : ℕ) → other_than_withdrawal x ≡ true → 258 ≤ length (buffer_of x) → 2 ≤ n → n ≤ 258 → Possible x (responded n)
-response_possible (Command apdu authentication signature buffer) n long room l m = command_response apdu authentication signature buffer n l m
-response_possible (Delivery result buffer) n long room l m = delivery_response result buffer n l m
-response_possible (Withdrawal buffer) n long room l m = never refl long
-response_possible PowerReset n long room l m = absurd (omega arith)
+response_possible : (x : Call) (n : ℕ) → 258 ≤ length (buffer_of x) → 2 ≤ n → n ≤ 258 → Possible x (responded n)
+response_possible (Command apdu authentication signature buffer) n room l m = command_response apdu authentication signature buffer n l m
+response_possible (Delivery result buffer) n room l m = delivery_response result buffer n l m
+response_possible PowerReset n room l m = absurd (omega arith)
 
 job_possible : (c : Card) (x : Call) (kind key : ℕ) (block : Bytes) → (call_may_give c x).job kind block → Possible x (handed_out kind key)
 job_possible c (Command apdu authentication signature buffer) kind key block own =
     command_job apdu authentication signature buffer kind key own.least own.most
 job_possible c (Delivery result buffer) kind key block own = absurd own
-job_possible c (Withdrawal buffer) kind key block own = absurd own
 job_possible c PowerReset kind key block own = absurd own
 
-possible_of : {c : Card} {x : Call} {o : Result} → other_than_withdrawal x ≡ true → Gives c x o → Possible x o.returned
-possible_of long (refuses x n) = edge_refusal x n
-possible_of long (responds x new d sw g fit room) = response_possible x (length d + 2) long room (omega arith) (omega (arith, fit.size))
-possible_of {c} long (hands_out x new kind key block g own room) = job_possible c x kind key block own
-possible_of long (resets new g) = reset
-
-possible_for : (c : Card) (x : Call) → Gives c x (step c x) → Possible x (step c x).returned
-unfolding step withdraw written
-possible_for c (Withdrawal buffer) given =
-    withdrawal_walk (λ o. Possible (Withdrawal buffer) o.returned) c buffer (edge_refusal (Withdrawal buffer)) (λ _ _. withdrawal_response buffer)
-possible_for c (Command apdu authentication signature buffer) given = possible_of refl given
-possible_for c (Delivery result buffer) given = possible_of refl given
-possible_for c PowerReset given = possible_of refl given
+possible_of : {c : Card} {x : Call} {o : Result} → Gives c x o → Possible x o.returned
+possible_of (refuses x n) = edge_refusal x n
+possible_of (responds x new d sw g fit room) = response_possible x (length d + 2) room (omega arith) (omega (arith, fit.size))
+possible_of {c} (hands_out x new kind key block g own room) = job_possible c x kind key block own
+possible_of (resets new g) = reset
 
 response_of : {c : Card} {x : Call} {o : Result} → Gives c x o
     → (n : ℕ) → o.returned ≡ responded n → drop n o.buffer ≡ drop n (buffer_of x)
@@ -109,7 +91,6 @@ unfolding sent_by
 command_ended c (Command apdu authentication signature buffer) d e =
     ((form_some d (parse apdu) e).0, (form_some d (parse apdu) e).1, form_over apdu d (parse apdu) e)
 command_ended c (Delivery result buffer) d e = absurd e
-command_ended c (Withdrawal buffer) d e = absurd e
 command_ended c PowerReset d e = absurd e
 
 ended_of : {c : Card} {x : Call} {o : Result} → Gives c x o
@@ -133,7 +114,6 @@ unfolding sent_by
 job_handed c (Command apdu authentication signature buffer) kind block own =
     record { size = own.size; own = rw (data_sent_lem apdu (parse apdu)) own.own }
 job_handed c (Delivery result buffer) kind block own = absurd own
-job_handed c (Withdrawal buffer) kind block own = absurd own
 job_handed c PowerReset kind block own = absurd own
 
 job_of : {c : Card} {x : Call} {o : Result} → Gives c x o → (kind key : ℕ) → o.returned ≡ handed_out kind key
@@ -190,7 +170,7 @@ module _ (c : Card) where
   written_edge w new (job kind key block) n e = clash (cc)
 
   refused_due : (x : Call) (n : ℕ) → (step c x).returned ≡ edge n → Due c x n
-  unfolding step command delivery withdrawal power_reset
+  unfolding step command delivery power_reset
   refused_due (Command apdu authentication signature buffer) n =
       let x : Call = Command apdu authentication signature buffer in
       let P : Result → Type 0 = λ o. o.returned ≡ edge n → Due c x n in
@@ -211,18 +191,7 @@ module _ (c : Card) where
       split P (not (good c)) (λ e. renumbered x 1 n (bad_state x (not-true _ e)))
       (λ g. split P (short_buffer buffer) (λ e. renumbered x 2 n (delivery_buffer result buffer (not-false _ g) (ltb-true _ _ e)))
       (λ room. split P (not (job_waits c))
-      (λ e. renumbered x 5 n (nothing_to_deliver result buffer (not-false _ g) (ltb-false _ _ room) (idle_not c (not-true _ e))))
-      (λ w. split P (wrong_length result)
-      (λ e. renumbered x 6 n (result_length result buffer (not-false _ g) (ltb-false _ _ room) (waits_not c (not-false _ w))
-      (eqb-false _ _ (not-true _ e))))
-      (λ _ e. absurd (written_edge buffer _ _ n e)))))
-  refused_due (Withdrawal buffer) n =
-      let x : Call = Withdrawal buffer in
-      let P : Result → Type 0 = λ o. o.returned ≡ edge n → Due c x n in
-      split P (not (good c)) (λ e. renumbered x 1 n (bad_state x (not-true _ e)))
-      (λ g. split P (short_buffer buffer) (λ e. renumbered x 2 n (withdrawal_buffer buffer (not-false _ g) (ltb-true _ _ e)))
-      (λ room. split P (not (job_waits c))
-      (λ e. renumbered x 5 n (nothing_to_withdraw buffer (not-false _ g) (ltb-false _ _ room) (idle_not c (not-true _ e))))
+      (λ e. renumbered x 5 n (no_job_waiting result buffer (not-false _ g) (ltb-false _ _ room) (idle_not c (not-true _ e))))
       (λ _ e. absurd (written_edge buffer _ _ n e))))
   refused_due PowerReset n =
       split (λ (o : Returned × Card). o.0 ≡ edge n → Due c PowerReset n) (not (good c))
@@ -231,24 +200,19 @@ module _ (c : Card) where
 
   -- What is due the edge refuses.
   due_refused : (x : Call) (n : ℕ) → Due c x n → (step c x).returned ≡ edge n
-  unfolding step command delivery withdrawal power_reset
+  unfolding step command delivery power_reset
   due_refused (Command apdu authentication signature buffer) n (bad_state _ g) = rw g
   due_refused (Delivery result buffer) n (bad_state _ g) = rw g
-  due_refused (Withdrawal buffer) n (bad_state _ g) = rw g
   due_refused PowerReset n (bad_state _ g) = rw g
   due_refused x n (command_buffer apdu authentication signature buffer g short) = rw (g, lt-ltb _ _ short)
   due_refused x n (delivery_buffer result buffer g short) = rw (g, lt-ltb _ _ short)
-  due_refused x n (withdrawal_buffer buffer g short) = rw (g, lt-ltb _ _ short)
   due_refused x n (authentication_certificate apdu authentication signature buffer g room bad) =
       rw (g, le-ltb _ _ room, not_lent_bad authentication bad)
   due_refused x n (signature_certificate apdu authentication signature buffer g room bad) =
       rw (g, le-ltb _ _ room, not_lent_bad signature bad, or-true (bad_certificate authentication))
   due_refused x n (job_waiting apdu authentication signature buffer g room a s waits) =
       rw (g, le-ltb _ _ room, lent_good authentication a, lent_good signature s, ne_eqb _ 0 waits)
-  due_refused x n (nothing_to_deliver result buffer g room idle) = rw (g, le-ltb _ _ room, eq-eqb _ 0 idle)
-  due_refused x n (nothing_to_withdraw buffer g room idle) = rw (g, le-ltb _ _ room, eq-eqb _ 0 idle)
-  due_refused x n (result_length result buffer g room waits other) =
-      rw (g, le-ltb _ _ room, ne_eqb _ 0 waits, ne_eqb (length result) 256 other)
+  due_refused x n (no_job_waiting result buffer g room idle) = rw (g, le-ltb _ _ room, eq-eqb _ 0 idle)
 
 -- A command whose length form is wrong.
 module _ (c : Card) (apdu authentication signature buffer : Bytes) (sw : ℕ) (p : parse apdu ≡ refused sw) where
@@ -272,35 +236,39 @@ module _ (c : Card) (apdu authentication signature buffer : Bytes) (sw : ℕ) (p
       (λ lent. split Alone (job_waits c) (λ e. refuses (refuse c buffer 4) 4 (rw (g, room, lent, e)))
       (λ _. judged_alone))))
 
--- A withdrawal that the edge does not refuse.
-module _ (c : Card) (buffer : Bytes) where
+-- A delivered result whose length is wrong.
+module _ (c : Card) (result buffer : Bytes) (wrong : ¬ (length result ≡ 256)) where
   abbrev y : Call
-  y = Withdrawal buffer
+  y = Delivery result buffer
 
   abbrev Ended : Result → Type 0
-  Ended o = o ≡ record { returned = responded 2; card = job_ended c; buffer = 0x64 ∷ 0x00 ∷ drop 2 buffer }
+  Ended o = (o.returned ≡ responded 2) × (o.buffer ≡ 0x64 ∷ 0x00 ∷ drop 2 buffer)
 
-  withdrawn : ((n : ℕ) → ¬ Due c y n) → Ended (step c y)
-  unfolding step withdrawal withdraw written response_in
-  withdrawn none =
+  delivered_alone : Ended (answered buffer c (in_session c.codes c.counts (deliver c.session result)))
+  unfolding deliver written response_in
+  delivered_alone = rw (ne_eqb (length result) 256 wrong) (refl, refl)
+
+  misdelivered : ((n : ℕ) → ¬ Due c y n) → Ended (step c y)
+  unfolding step delivery
+  misdelivered none =
       let refuses : (o : Result) (n : ℕ) → (step c y).returned ≡ edge n → Ended o = λ o n e. absurd (none n (refused_due c y n e)) in
       split Ended (not (good c)) (λ e. refuses (refuse c buffer 1) 1 (rw e))
       (λ g. split Ended (short_buffer buffer) (λ e. refuses (refuse c buffer 2) 2 (rw (g, e)))
       (λ room. split Ended (not (job_waits c)) (λ e. refuses (refuse c buffer 5) 5 (rw (g, room, e)))
-      (λ _. refl)))
+      (λ _. delivered_alone)))
 
 -- No call changes the profile.
 written_profile : (w : Bytes) (new : Card) (a : Answer) → (written w new a).card.profile ≡ new.profile
-written_profile w new a = ap (λ (d : Card). d.profile) (card_written w new a)
+unfolding written
+written_profile w new (response d sw) = refl
+written_profile w new (job kind key block) = refl
 
 pub profile_kept : ProfileKept
 unfolding step power_reset
 profile_kept c (Command apdu authentication signature buffer) =
     command_walk (λ o. o.card.profile ≡ c.profile) c apdu authentication signature buffer (λ _. refl) (λ _ _ _. written_profile buffer _ _)
 profile_kept c (Delivery result buffer) =
-    delivery_walk (λ o. o.card.profile ≡ c.profile) c result buffer (λ _. refl) (λ _ _ _. written_profile buffer _ _)
-profile_kept c (Withdrawal buffer) =
-    withdrawal_walk (λ o. o.card.profile ≡ c.profile) c buffer (λ _. refl) (λ _ _. written_profile buffer _ _)
+    delivery_walk (λ o. o.card.profile ≡ c.profile) c result buffer (λ _. refl) (λ _ _. written_profile buffer _ _)
 profile_kept c PowerReset = split (λ (o : Returned × Card). o.1.profile ≡ c.profile) (not (good c)) (λ _. refl) (λ _. refl)
 
 pub demand_1 : Demand1
@@ -311,7 +279,7 @@ demand_1 =
           record {
             due = λ n. (refused_due c x n, due_refused c x n);
             edge = edge_of given;
-            possible = possible_for c x given;
+            possible = possible_of given;
             response = response_of given;
             refusal = refusal_of given;
             ended = ended_of given;
@@ -319,5 +287,5 @@ demand_1 =
             sized = sized_of given;
           };
       malformed = malformed;
-      withdrawn = withdrawn;
+      misdelivered = misdelivered;
     }

@@ -7,7 +7,7 @@ use native.Mathlib.Omega.{arith}
 use lib.Dec.{leb, ltb}
 use lib.ListN.{length, get_or, take, drop, replicate, length-append, length-take, length-drop}
 use lib.Seq.{drop-append_seam, take_at}
-use borrow.Author.Tests.{leb-true, leb-false, ltb-true, ltb-false, lt-ltb}
+use borrow.Author.Tests.{leb-true, leb-false, ltb-true, ltb-false}
 use Rattle.octets.specs.Octets.{Bytes, all_bytes, blank, filled, good_room}
 use Rattle.octets.proofs.Tests.{split, by_test, either, below_three}
 use Rattle.octets.proofs.Strings.{all_take}
@@ -19,7 +19,7 @@ use Rattle.rules.specs.Keys.{present, of_class, active_key}
 use Rattle.rules.specs.Session.{new_session}
 use Rattle.rules.specs.Files.{files_in}
 use Rattle.rules.specs.State.{good_code, good_codes, good_counts, good_references, good_records, good_profile, good_selection, good_environment, good_job}
-use Rattle.rules.specs.State.{good_session, with_counts, good}
+use Rattle.rules.specs.State.{good_session, good}
 use Rattle.rules.specs.Edge.{power_reset}
 use Rattle.rules.specs.Image.{load}
 use Rattle.rules.specs.Writer.{code_image, codes_image, keys_among, key_bytes, keys_image, references_image, record_image, records_image}
@@ -32,7 +32,7 @@ use Rattle.rules.specs.ImageLaws.{LastSections, LimitReached, FromGoodCards}
 use Rattle.rules.proofs.Parts.{good_codes_lem, three_codes, good_profile_lem, good_session_lem, good_card, counts_good}
 use Rattle.rules.proofs.Loading.{fresh}
 use Rattle.rules.proofs.Writing.{image_loads, image_followed, last_section_lem, image_least, image_most, image_limited, write_bad}
-use Rattle.rules.proofs.Writing.{image_parts, write_short, write_whole}
+use Rattle.rules.proofs.Writing.{write_short, write_whole}
 use Rattle.rules.proofs.FirstBytes.{first_bytes}
 use Rattle.rules.proofs.Demand3.{demand_3}
 
@@ -47,30 +47,13 @@ shortest : WrittenIn 84
 unfolding sample_card good good_codes good_counts good_code good_profile good_references good_records good_session good_selection good_environment good_job good_room files_in present of_class active_key new_session least blank filled image_of codes_image code_image keys_image keys_among key_bytes references_image personal_image records_image record_image counts_image
 shortest = record { card = sample_card; is_good = refl; size = refl }
 
-sample_good : good sample_card ≡ true
-unfolding shortest
-sample_good = shortest.is_good
+-- The sample card with other unblocking counts: with a section of them its image has the fewest bytes of those.
+sample_with : ℕ → Card
+sample_with n = record { codes = sample_card.codes; counts = n ∷ n ∷ []; profile = sample_card.profile; session = sample_card.session }
 
--- The sample card with an unblocking count for both PINs.
-abbrev sample_with : ℕ → Card
-sample_with n = with_counts sample_card (n ∷ n ∷ [])
-
-limited_good : (n : ℕ) → n ≤ no_limit → good (sample_with n) ≡ true
-limited_good n limit =
-    good_card (sample_with n) (good_codes_lem sample_card sample_good)
-    (counts_good (n ∷ n ∷ []) refl (λ i h.
-    below_three (λ i. i < 2 → get_or (n ∷ n ∷ []) i 0 ≤ no_limit) (λ _. limit) (λ _. limit) (λ h. absurd (omega arith)) i (omega arith) h))
-    (good_profile_lem sample_card sample_good) (good_session_lem sample_card sample_good)
-
--- Its image is the sample card's and a section of three bytes, so that it has the fewest bytes of those with the section.
 shortest_limited_lem : LimitedIn 87
-unfolding shortest counts_image sample_card
-shortest_limited_lem = record {
-  card = sample_with 0;
-  is_good = limited_good 0 (omega arith);
-  limited = refl;
-  size = omega (arith, image_parts (sample_with 0), image_parts sample_card, shortest.size);
-}
+unfolding sample_with sample_card good good_codes good_counts good_code good_profile good_references good_records good_session good_selection good_environment good_job good_room files_in present of_class active_key new_session least blank filled image_of codes_image code_image keys_image keys_among key_bytes references_image personal_image records_image record_image counts_image
+shortest_limited_lem = record { card = sample_with 0; is_good = refl; limited = refl; size = refl }
 
 -- A card with the longest codes, all keys, the longest records and a section of unblocking counts has the most.
 longest_card : Card
@@ -273,17 +256,26 @@ counts_loaded c g k low h =
     ∙ ap (λ (r : ℕ × Card). count_of r.1.counts k) (image_loads c g)
     ∙ ap (λ (l : List ℕ). count_of l k) (reset_counts c)
 
+-- The sample card with a count for both PINs.
+sample_good : good sample_card ≡ true
+unfolding sample_card good good_codes good_counts good_code good_profile good_references good_records good_session good_selection good_environment good_job good_room files_in present of_class active_key new_session least blank filled
+sample_good = refl
+
+limited_good : (n : ℕ) → n ≤ no_limit → good (sample_with n) ≡ true
+unfolding sample_with
+limited_good n limit =
+    good_card (sample_with n) (good_codes_lem sample_card sample_good)
+    (counts_good (n ∷ n ∷ []) refl (λ i h.
+    below_three (λ i. i < 2 → get_or (n ∷ n ∷ []) i 0 ≤ no_limit) (λ _. limit) (λ _. limit) (λ h. absurd (omega arith)) i (omega arith) h))
+    (good_profile_lem sample_card sample_good) (good_session_lem sample_card sample_good)
+
 sample_tries_lem : (n j : ℕ) → j < 3 → (code_of (sample_with n).codes j).tries ≡ 3
-unfolding sample_card
+unfolding sample_with sample_card
 sample_tries_lem n = below_three (λ j. (code_of (sample_with n).codes j).tries ≡ 3) refl refl refl
 
 sample_count : (n k : ℕ) → k < 3 → 1 ≤ k → count_of (sample_with n).counts k ≡ n
+unfolding sample_with
 sample_count n = below_three (λ k. 1 ≤ k → count_of (n ∷ n ∷ []) k ≡ n) (λ none. absurd (omega arith)) (λ _. refl) (λ _. refl)
-
--- Its image is of bytes.
-sample_bytes : (n : ℕ) → n < 256 → all_bytes (image_of (sample_with n)) ≡ true
-unfolding sample_card image_of codes_image code_image keys_image keys_among present key_bytes references_image personal_image records_image record_image counts_image blank filled
-sample_bytes n byte = by_test _ (unlimited (n ∷ n ∷ [])) (λ u. rw u) (λ u. rw (u, lt-ltb n 256 byte))
 
 every_count_lem : (n : ℕ) → n < no_limit → (k : ℕ) → 1 ≤ k → k < 3 → LimitReached n k
 every_count_lem n limit k low h =
@@ -294,7 +286,6 @@ every_count_lem n limit k low h =
     let count : count_at_load image k ≡ n = counts_loaded c g k low h ∙ sample_count n k h low in
     record {
       image = image;
-      of_bytes = sample_bytes n (omega arith);
       loads = loads_zero c g;
       three = three;
       count = count;

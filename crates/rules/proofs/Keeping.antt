@@ -27,20 +27,20 @@ use Rattle.rules.specs.Answers.{Answer, response, job, Step, SessionStep, in_ses
 use Rattle.rules.specs.Judgement.{commands, instruction, parameters, no_data, has_data, has_le, lengths, own_rules, refusal}
 use Rattle.rules.specs.Judgement.{known_class, known_instruction, bad_chaining, named_in, judge_named, judge_header}
 use Rattle.rules.specs.Judgement.{judge_form, judge}
-use Rattle.rules.specs.Delivery.{deliver, withdraw}
+use Rattle.rules.specs.Delivery.{deliver}
 use Rattle.rules.specs.Edge.{Result, refuse, response_in, written, card_after, answered, power_reset}
-use Rattle.rules.specs.Counting.{Call, Command, Delivery, Withdrawal, PowerReset, step, next, of_bytes}
+use Rattle.rules.specs.Counting.{Call, Command, Delivery, PowerReset, step, next, of_bytes}
 use Rattle.rules.specs.Demands.{buffer_of}
 use Rattle.rules.proofs.Forms.{FitForm, well_formed, malformed, form_data, parse_fits}
 use Rattle.rules.proofs.Parts.{good_codes_lem, good_counts_lem, good_profile_lem, good_references_lem, good_session_lem, good_card}
-use Rattle.rules.proofs.Walks.{refusing, command_walk, delivery_walk, withdrawal_walk}
+use Rattle.rules.proofs.Walks.{refusing, command_walk, delivery_walk}
 use Rattle.rules.proofs.Sessions.{held_replaced, chain_replaced, new_session_good}
 use Rattle.rules.proofs.KeepingAnswers.{MayCome, FitResponse, Fit, nothing_more, command_may_give, Ended, Keeps, KeepsCodes, KeepsBoth}
 use Rattle.rules.proofs.KeepingAnswers.{refusing_alone, status_fits}
 use Rattle.rules.proofs.KeepingFiles.{select_keeps, read_record_keeps, read_binary_keeps, get_response_keeps}
 use Rattle.rules.proofs.KeepingCodes.{closed_good, verify_keeps, change_keeps, reset_retry_keeps, counts_left_good}
 use Rattle.rules.proofs.KeepingKeys.{set_environment_keeps, choose_key_keeps, authenticate_keeps, sign_keeps}
-use Rattle.rules.proofs.KeepingKeys.{decipher_keeps, deliver_keeps, withdraw_keeps}
+use Rattle.rules.proofs.KeepingKeys.{decipher_keeps, deliver_keeps}
 
 -- Where steps 3 and 5 find a command, its P1 and P2 are as it wants them, and its instruction is the header's.
 pub record Fits (h : Header) (x : Instruction) : Type 0 where
@@ -204,7 +204,6 @@ module _ (c : Card) (g : good c ≡ true) (idle : c.session.job.kind ≡ 0) (b a
 abbrev pub call_may_give : Card → Call → MayCome
 call_may_give c (Command apdu authentication signature buffer) = command_may_give (FormEnded (parse apdu)) c.session (form_data apdu (parse apdu))
 call_may_give c (Delivery result buffer) = nothing_more
-call_may_give c (Withdrawal buffer) = nothing_more
 call_may_give c PowerReset = nothing_more
 
 -- What a call can give: an edge refusal, or a good card with a response, a job or a reset.
@@ -225,13 +224,6 @@ module _ (c : Card) (x : Call) (room : 258 ≤ length (buffer_of x)) where
   answered_gives : good c ≡ true → (o : Step) → KeepsBoth (call_may_give c x) c.profile.keys o → Gives c x (answered (buffer_of x) c o)
   answered_gives g o k =
       written_gives (card_after c o) o.answer (good_card (card_after c o) k.codes k.counts (good_profile_lem c g) k.session) k.answer
-
-  -- what the key host's calls give: only the session is another
-  session_gives : call_may_give c x ≡ nothing_more → good c ≡ true → (o : SessionStep) → Keeps nothing_more c.profile.keys o
-      → Gives c x (answered (buffer_of x) c (in_session c.codes c.counts o))
-  session_gives e g o k =
-      answered_gives g (in_session c.codes c.counts o)
-      (rw e (record { codes = good_codes_lem c g; counts = good_counts_lem c g; session = k.session; answer = k.answer }))
 
 gives_good : {c : Card} {x : Call} {o : Result} → Gives c x o → good c ≡ true → good o.card ≡ true
 gives_good (refuses x r) g = g
@@ -256,13 +248,9 @@ call_gives c (Command apdu authentication signature buffer) bytes =
 call_gives c (Delivery result buffer) bytes =
     let x : Call = Delivery result buffer in
     delivery_walk (Gives c x) c result buffer (refuses x)
-    (λ g room whole. session_gives c x (ltb-false _ _ room) refl g (deliver c.session result)
-    (deliver_keeps c.profile.keys c.session (good_session_lem c g) result whole))
-call_gives c (Withdrawal buffer) bytes =
-    let x : Call = Withdrawal buffer in
-    withdrawal_walk (Gives c x) c buffer (refuses x)
-    (λ g room. session_gives c x (ltb-false _ _ room) refl g (withdraw c.session)
-    (withdraw_keeps c.profile.keys c.session (good_session_lem c g)))
+    (λ g room. let kept = deliver_keeps c.profile.keys c.session (good_session_lem c g) result in
+    answered_gives c x (ltb-false _ _ room) g (in_session c.codes c.counts (deliver c.session result))
+    (record { codes = good_codes_lem c g; counts = good_counts_lem c g; session = kept.session; answer = kept.answer }))
 call_gives c PowerReset bytes =
     split (λ (o : _ × Card). Gives c PowerReset (record { returned = o.0; card = o.1; buffer = [] })) (not (good c)) (λ e. refuses PowerReset 1)
     (λ g. resets _ (good_card _ (all_closed c.codes (good_codes_lem c (not-false _ g))) (good_counts_lem c (not-false _ g)) (good_profile_lem c (not-false _ g)) (new_session_good _)))

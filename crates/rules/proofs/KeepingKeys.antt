@@ -21,11 +21,11 @@ use Rattle.rules.specs.Session.{all_active, no_job, chain_bytes, with_job, drop_
 use Rattle.rules.specs.State.{good_codes, good_counts, good_references, good_environment, good_session}
 use Rattle.rules.specs.KeyCommands.{set_environment, kind_chosen, choosing, choose_key, internal_authenticate, sign}
 use Rattle.rules.specs.KeyCommands.{decipher}
-use Rattle.rules.specs.Delivery.{deliver, withdraw}
+use Rattle.rules.specs.Delivery.{deliver}
 use Rattle.rules.proofs.Digests.{digest_forms}
 use Rattle.rules.proofs.Walks.{set_environment_walk, choose_key_walk, authenticate_walk, sign_walk, decipher_walk}
 use Rattle.rules.proofs.Walks.{deliver_walk}
-use Rattle.rules.proofs.Sessions.{choice_changed, environment_replaced, chain_replaced, job_ended_lem}
+use Rattle.rules.proofs.Sessions.{choice_changed, environment_replaced, chain_replaced, job_ended}
 use Rattle.rules.proofs.KeepingAnswers.{MayCome, nothing_more, OwnJob, command_may_give, Keeps, KeepsBoth, ok_keeps, refusal_keeps, give_keeps}
 use Rattle.rules.proofs.KeepingAnswers.{hand_out_keeps}
 use Rattle.rules.proofs.KeepingCodes.{closed_good}
@@ -52,17 +52,13 @@ module _ (m : MayCome) (keys : List Bool) (s : Session) (g : good_session keys s
       (ok_keeps (choosing_good h.p2 0 refl))
       (λ class there. ok_keeps (choosing_good h.p2 _ (simp (class, there, or-true))))
 
--- A delivery and a withdrawal hand out no job, and are not answered 6282.
-pub deliver_keeps : (keys : List Bool) (s : Session) → good_session keys s ≡ true → (result : Bytes) → length result ≡ 256
-    → Keeps nothing_more keys (deliver s result)
-deliver_keeps keys s g result whole =
-    let ended : good_session keys (with_job s no_job) ≡ true = job_ended_lem keys s g in
-    deliver_walk (Keeps nothing_more keys) s result (refusal_keeps ended 0x6A80 refl) (ok_keeps ended)
-    (λ n. give_keeps nothing_more keys _ ended s.job.le (drop n result) refl (simp length-drop (omega arith)))
-
-pub withdraw_keeps : (keys : List Bool) (s : Session) → good_session keys s ≡ true → Keeps nothing_more keys (withdraw s)
-unfolding withdraw
-withdraw_keeps keys s g = refusal_keeps (job_ended_lem keys s g) 0x6400 refl
+-- A delivery hands out no job, and is not answered 6282.
+pub deliver_keeps : (keys : List Bool) (s : Session) → good_session keys s ≡ true → (result : Bytes) → Keeps nothing_more keys (deliver s result)
+deliver_keeps keys s g result =
+    let ended : good_session keys (with_job s no_job) ≡ true = job_ended keys s g in
+    deliver_walk (Keeps nothing_more keys) s result (refusal_keeps ended 0x6400 refl) (refusal_keeps ended 0x6A80 refl)
+    (ok_keeps ended)
+    (λ whole n. give_keeps nothing_more keys _ ended s.job.le (drop n result) refl (simp length-drop (omega arith)))
 
 -- Commands that hand out a job: Le is at most 256, and nothing is held. The card was in session t before something of it was dropped.
 module _ (E : Bytes → Type 0) (t : Session) (codes : List Code) (keys : List Bool) (references : Bytes) (r : good_references keys references ≡ true)

@@ -19,7 +19,6 @@ pub mod Writing
 pub mod FirstBytes
 pub mod GoodStates
 pub mod Queries
-pub mod Deliveries
 pub mod Sheet
 pub mod Counts
 pub mod Unblocking

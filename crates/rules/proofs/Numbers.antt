@@ -13,7 +13,7 @@ use Rattle.rules.specs.declared.JobKind.{JobKind}
 use Rattle.rules.specs.declared.JobKind.TheVariants.{Authenticate, Sign, Decipher}
 use Rattle.rules.specs.declared.Refusal.{Refusal}
 use Rattle.rules.specs.declared.Refusal.TheVariants.{BadState, ShortBuffer, CertificateLength, JobWaiting}
-use Rattle.rules.specs.declared.Refusal.TheVariants.{NoJobWaiting, ResultLength}
+use Rattle.rules.specs.declared.Refusal.TheVariants.{NoJobWaiting}
 use Rattle.rules.specs.declared.Reply.{Reply}
 use Rattle.rules.specs.declared.Reply.TheVariants.{Refused, Response, HandedOut, WasReset}
 use Rattle.rules.specs.declared.Fault.{Fault}
@@ -43,8 +43,7 @@ kind_back Decipher = refl
 
 refusal_of_lem : ℕ → Refusal
 refusal_of_lem n =
-    cond (eqb n 1) BadState
-    (cond (eqb n 2) ShortBuffer (cond (eqb n 3) CertificateLength (cond (eqb n 4) JobWaiting (cond (eqb n 5) NoJobWaiting ResultLength))))
+    cond (eqb n 1) BadState (cond (eqb n 2) ShortBuffer (cond (eqb n 3) CertificateLength (cond (eqb n 4) JobWaiting NoJobWaiting)))
 
 refusal_back : (a : Refusal) → refusal_of_lem (refusal_number a) ≡ a
 unfolding refusal_of_lem
@@ -53,7 +52,6 @@ refusal_back ShortBuffer = refl
 refusal_back CertificateLength = refl
 refusal_back JobWaiting = refl
 refusal_back NoJobWaiting = refl
-refusal_back ResultLength = refl
 
 reply_of : Returned → Reply
 reply_of (edge n) = Refused (refusal_of_lem n)

@@ -26,7 +26,7 @@ use Rattle.rules.specs.CodeCommands.{queried, verify}
 use Rattle.rules.specs.Judgement.{instruction, parameters, has_data, lengths, own_rules, refusal}
 use Rattle.rules.specs.Judgement.{known_instruction, named_in, judge_named, judge_header, judge_form, judge}
 use Rattle.rules.specs.Edge.{Result, refuse, written, answered, command}
-use Rattle.rules.specs.Counting.{Call, Command, Delivery, Withdrawal, PowerReset, Exchange, step, exchange, exchange_of, next, trace}
+use Rattle.rules.specs.Counting.{Call, Command, Delivery, PowerReset, Exchange, step, exchange, exchange_of, next, trace}
 use Rattle.rules.specs.Counting.{number, status_word, returned_status, returned_kind, form_sends, sent_by, read_off}
 use Rattle.rules.specs.Counting.{is_command, ok_status, wrong_status, queries, verifies, changes, presents_puk, presents}
 use Rattle.rules.specs.Counting.{unblocks, answers, wrong_answer, restoration, unblocking, right_verify, changed, hands_signature}
@@ -96,11 +96,6 @@ module _ (h : Header) (verifying : h.ins ≡ 0x20) (without : h.lc ≡ 0) (k : �
   pub unblocks_nothing : unblocks k h ≡ false
   unfolding unblocks
   unblocks_nothing = rw verifying
-
--- A test that a call does not pass adds nothing.
-pub adds_nothing : (c : Card) (x : Call) (t : Exchange → Bool) → t (exchange c x) ≡ false → (calls : List Call)
-    → number t (trace c (x ∷ calls)) ≡ number t (trace (next c x) calls)
-adds_nothing c x t e calls = rw e (omega arith)
 
 -- A header of a query.
 module _ (h : Header) (q : queries h ≡ true) where
@@ -234,6 +229,11 @@ module _ (c : Card) (b auth sig w : Bytes) (h : Header) (start : ℕ) (p : parse
         (λ _ _. word_told 0x9000 refl)
         (λ _ _. word_told (0x63C0 + t) (simp (wrong_status_lem t (omega arith), or-true)))))
 
+  -- a test that a query does not pass adds nothing
+  adds_nothing : (t : Exchange → Bool) → t (exchange c x) ≡ false → (calls : List Call)
+      → number t (trace c (x ∷ calls)) ≡ number t (trace (next c x) calls)
+  adds_nothing t e calls = rw e (omega arith)
+
   uncounted : Uncounted c x
   unfolding step
   uncounted =
@@ -242,15 +242,12 @@ module _ (c : Card) (b auth sig w : Bytes) (h : Header) (start : ℕ) (p : parse
       record {
         codes = gives.codes;
         counts = gives.counts;
-        wrong = λ k. adds_nothing c x (wrong_answer k) (rw (tested (presents k), presented-none k, and-false));
-        restored = λ k. adds_nothing c x (restoration k) (rw (tested (presents k), presented-none k, and-false));
-        unblocked = λ k.
-            adds_nothing c x (unblocking k) (rw (tested (unblocks k), unblocks_nothing h (ins h q) (no_data_lem h q) k, and-false));
-        presented =
-            adds_nothing c x (right_verify PIN2)
-            (rw (tested (verifies PIN2), verifies_nothing h (ins h q) (no_data_lem h q) PIN2, and-false));
-        changed = adds_nothing c x (changed _) (rw (tested (changes _), changes_nothing h (ins h q) (no_data_lem h q) _, and-false));
-        signed = adds_nothing c x hands_signature (rw gives.kind);
+        wrong = λ k. adds_nothing (wrong_answer k) (rw (tested (presents k), presented-none k, and-false));
+        restored = λ k. adds_nothing (restoration k) (rw (tested (presents k), presented-none k, and-false));
+        unblocked = λ k. adds_nothing (unblocking k) (rw (tested (unblocks k), unblocks_nothing h (ins h q) (no_data_lem h q) k, and-false));
+        presented = adds_nothing (right_verify PIN2) (rw (tested (verifies PIN2), verifies_nothing h (ins h q) (no_data_lem h q) PIN2, and-false));
+        changed = adds_nothing (changed _) (rw (tested (changes _), changes_nothing h (ins h q) (no_data_lem h q) _, and-false));
+        signed = adds_nothing hands_signature (rw gives.kind);
       }
 
   -- the row of the sheet for code k
@@ -303,12 +300,10 @@ pub queries_uncounted : Queries
 unfolding sent_by read_off
 queries_uncounted c (Command b auth sig w) q = query_command c b auth sig w (parse b) refl q
 queries_uncounted c (Delivery r w) q = never refl q
-queries_uncounted c (Withdrawal w) q = never refl q
 queries_uncounted c PowerReset q = never refl q
 
 pub asked_about : (k : ℕ) → k < 3 → (c : Card) (x : Call) → Asked k c x (step c x)
 unfolding step sent_by read_off
 asked_about k few c (Command b auth sig w) = asked_command c b auth sig w k few (parse b) refl
 asked_about k few c (Delivery r w) = unasked k c _ _ refl refl refl
-asked_about k few c (Withdrawal w) = unasked k c _ _ refl refl refl
 asked_about k few c PowerReset = unasked k c _ _ refl refl refl

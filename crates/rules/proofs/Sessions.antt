@@ -159,9 +159,9 @@ module _ (keys : List Bool) (s : Session) (g : good_session keys s ≡ true) whe
   unfolding good_session
   job_replaced held chain j h = simp (selection_good, environment_good, held_good, chain_good, h) (simp (held, chain, or-true))
 
-  pub job_ended_lem : good_session keys (with_job s no_job) ≡ true
+  pub job_ended : good_session keys (with_job s no_job) ≡ true
   unfolding good_session good_job
-  job_ended_lem = simp (selection_good, environment_good, held_good, chain_good)
+  job_ended = simp (selection_good, environment_good, held_good, chain_good)
 
 -- The session after load and power reset is good.
 pub new_session_good : (keys : List Bool) → good_session keys new_session ≡ true

@@ -33,25 +33,25 @@ use Rattle.rules.specs.FileCommands.{select, read_record, read_binary, get_respo
 use Rattle.rules.specs.KeyCommands.{set_environment, choose_key, internal_authenticate, sign, decipher}
 use Rattle.rules.specs.CodeCommands.{sw_not_allowed, sw_has_tries, verdict, judged, queried, verify, new_value, change}
 use Rattle.rules.specs.CodeCommands.{unblocked, unblock_by_verified_puk, unblock_by_presented_puk, reset_retry}
-use Rattle.rules.specs.Judgement.{instruction, parameters, has_data, lengths, own_rules, refusal}
+use Rattle.rules.specs.Judgement.{commands, instruction, parameters, has_data, lengths, own_rules, refusal}
 use Rattle.rules.specs.Judgement.{judge_header, judge_form}
 use Rattle.rules.specs.Judgement.{judge}
-use Rattle.rules.specs.Delivery.{deliver, withdraw}
-use Rattle.rules.specs.Edge.{Result, refuse, written, card_after, answered, command, delivery, withdrawal, power_reset}
-use Rattle.rules.specs.Counting.{Call, Command, Delivery, Withdrawal, PowerReset, Exchange, step, exchange_of, status_word}
+use Rattle.rules.specs.Delivery.{deliver}
+use Rattle.rules.specs.Edge.{Result, refuse, written, card_after, answered, command, delivery, power_reset}
+use Rattle.rules.specs.Counting.{Call, Command, Delivery, PowerReset, Exchange, step, exchange_of, status_word}
 use Rattle.rules.specs.Counting.{returned_status, returned_kind, form_sends, sent_by, read_off, data_sent, is_command}
 use Rattle.rules.specs.Counting.{ok_status, wrong_status, verifies, changes, presents_puk, unblocks, presents}
 use Rattle.rules.specs.Counting.{answers, wrong_answer, restoration, unblocking, right_verify, changed, hands_signature}
 use Rattle.rules.specs.CodeSheet.{verified_after, value_after, any_unblocks, any_unblocked}
 use Rattle.rules.specs.CodeSheet.{by_verified_puk, presented_by, presented_in, hands_pin1_job, stores_pin, reset_done}
 use Rattle.rules.specs.CodeSheet.{opens, closes, Sheet}
-use Rattle.rules.proofs.StatusWords.{card_written, word_written, wrong_status_lem, wrong_not_ok}
+use Rattle.rules.proofs.StatusWords.{status_read, wrong_status_lem, wrong_not_ok}
 use Rattle.rules.proofs.Parts.{good_code_lem, good_codes_lem, code_length, code_tries, allowed_most, code_place}
 use Rattle.rules.proofs.Parts.{code_same, code_other}
 use Rattle.rules.proofs.Walks.{give_walk, select_walk, read_record_walk, read_binary_walk, get_response_walk}
 use Rattle.rules.proofs.Walks.{set_environment_walk, choose_key_walk, authenticate_walk, sign_walk, decipher_walk}
 use Rattle.rules.proofs.Walks.{verdict_walk, queried_walk, verify_walk, replaced_walk, verified_puk_walk, reset_retry_walk}
-use Rattle.rules.proofs.Walks.{command_walk, delivery_walk, withdrawal_walk, refusing}
+use Rattle.rules.proofs.Walks.{command_walk, delivery_walk, refusing}
 use Rattle.rules.proofs.Forms.{refusal_6700, asked}
 use Rattle.rules.proofs.Keeping.{header_walk, verify_code, change_code, reset_code}
 use Rattle.rules.proofs.Queries.{verifies_nothing, presents_nothing, unblocks_nothing}
@@ -115,11 +115,15 @@ module _ (k : ℕ) (c : Card) (x : Call) (w : Bytes) where
   abbrev E : Card → ℕ → Exchange
   E c' sw = exchange_of x (written w c' (response [] sw))
 
+  told : (c' : Card) (sw : ℕ) → status_word (E c' sw) ≡ sw
+  unfolding written
+  told c' sw = status_read w sw
+
   -- a status word that is neither 9000 nor 63Cx moves nothing
   refusal_silent : (c' : Card) (sw : ℕ) → ok_status sw ≡ false → wrong_status sw ≡ false → Silent k (E c' sw)
   unfolding written returned_kind reset_done
   refusal_silent c' sw n m =
-      let z = word_written x w c' sw in
+      let z = told c' sw in
       let ok : ok_status (status_word (E c' sw)) ≡ false = ap ok_status z ∙ n in
       let wr : wrong_status (status_word (E c' sw)) ≡ false = ap wrong_status z ∙ m in
       record {
@@ -155,6 +159,11 @@ module _ (k : ℕ) (c : Card) (x : Call) (w : Bytes) where
     resetting = refl;
   }) (never refl)
 
+  card_written : (c' : Card) (a : Answer) → code_of (written w c' a).card.codes k ≡ code_of c'.codes k
+  unfolding written
+  card_written c' (response d sw) = refl
+  card_written c' (job kind key block) = refl
+
   -- no answer is a reset
   answer_reset : (c' : Card) (a : Answer) → reset_done (written w c' a).returned ≡ false
   unfolding written reset_done
@@ -168,7 +177,7 @@ module _ (k : ℕ) (c : Card) (x : Call) (w : Bytes) where
       → hands_signature (exchange_of x (written w c' a)) ≡ false → (hands_pin1_job (exchange_of x (written w c' a)) ≡ true → (code_of c.codes PIN1).verified ≡ true)
       → Sheet k c x (written w c' a)
   unfolding written
-  other_call c' a e v n q u t p s z pin1 = unmoved k c x (written w c' a) (ap (λ (d : Card). code_of d.codes k) (card_written w c' a) ∙ e) (record {
+  other_call c' a e v n q u t p s z pin1 = unmoved k c x (written w c' a) (card_written c' a ∙ e) (record {
     rightly = rw (v, and-false);
     wrongly = rw (q, and-false);
     changing = rw (n, and-false);
@@ -298,7 +307,7 @@ module _ (k : ℕ) (h3 : k < 3) (c : Card) (g : good_codes c.codes ≡ true) (b 
   -- the tests of an exchange that a status word ended, by the header
   by_header : (codes : List Code) (counts : List ℕ) (sw : ℕ) (st : ℕ → Bool) (t : Header → Bool)
       → (st (status_word (E k c x w (C codes counts) sw)) && is_command t x) ≡ (st sw && t h)
-  by_header codes counts sw st t = rw (word_written x w (C codes counts) sw, asked b auth sig w p t)
+  by_header codes counts sw st t = rw (told k c x w (C codes counts) sw, asked b auth sig w p t)
 
   -- 9000
   accepted : (codes : List Code)
@@ -365,7 +374,7 @@ module _ (k : ℕ) (h3 : k < 3) (c : Card) (g : good_codes c.codes ≡ true) (b 
         stored = simp (ok (changes k), ok (stores_pin k)) v;
         rightly = never (ok (presents k));
         wrongly = λ e. ap (λ (d : Bytes). same d (value (code_of cs k))) (shown (value (code_of cs k))) ∙ wrong_value (sym wr ∙ e);
-        wrong = λ e. word_written x w (C codes counts) (0x63C0 + t) ∙ ap (λ (n : ℕ). 0x63C0 + n) (left (sym wr ∙ e));
+        wrong = λ e. told k c x w (C codes counts) (0x63C0 + t) ∙ ap (λ (n : ℕ). 0x63C0 + n) (left (sym wr ∙ e));
         had_tries = λ e. some (sym wr ∙ e);
         restored = never (ok (presents k));
         unblocked = never (ok (unblocks k));
@@ -712,22 +721,13 @@ module _ (k : ℕ) (h3 : k < 3) (c : Card) (b auth sig w : Bytes) where
       let x : Call = Command b auth sig w in
       command_walk (Sheet k c x) c b auth sig w (edge_refusal_lem k c x w) (λ g _ _. form_sheet g (parse b) refl)
 
--- A delivery and a withdrawal.
+-- A delivery.
 delivery_sheet : (k : ℕ) (c : Card) (r w : Bytes) → Sheet k c (Delivery r w) (delivery c r w)
 unfolding sent_by read_off
 delivery_sheet k c r w =
     let x : Call = Delivery r w in
     let o : SessionStep = deliver c.session r in
     delivery_walk (Sheet k c x) c r w (edge_refusal_lem k c x w)
-    (λ _ _ _. other_call k c x w (card_after c (in_session c.codes c.counts o)) o.answer refl refl refl refl refl refl refl refl
-    (simp and-false) (never (simp and-false)))
-
-withdrawal_sheet : (k : ℕ) (c : Card) (w : Bytes) → Sheet k c (Withdrawal w) (withdrawal c w)
-unfolding sent_by read_off
-withdrawal_sheet k c w =
-    let x : Call = Withdrawal w in
-    let o : SessionStep = withdraw c.session in
-    withdrawal_walk (Sheet k c x) c w (edge_refusal_lem k c x w)
     (λ _ _. other_call k c x w (card_after c (in_session c.codes c.counts o)) o.answer refl refl refl refl refl refl refl refl
     (simp and-false) (never (simp and-false)))
 
@@ -774,5 +774,4 @@ pub code_after : (k : ℕ) → k < 3 → (c : Card) (x : Call) → Sheet k c x (
 unfolding step
 code_after k h3 c (Command b auth sig w) = command_sheet k h3 c b auth sig w
 code_after k h3 c (Delivery r w) = delivery_sheet k c r w
-code_after k h3 c (Withdrawal w) = withdrawal_sheet k c w
 code_after k h3 c PowerReset = reset_sheet k h3 c

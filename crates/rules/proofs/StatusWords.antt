@@ -1,5 +1,5 @@
 -- Responses: data and status word, written to the buffer and read back; and 63Cx told from 9000.
-use mathlib.Core.Path.{◌≡◌, refl}
+use mathlib.Core.Path.{◌≡◌}
 use mathlib.Core.Bool.{true, false}
 use mathlib.Core.List.{[]}
 use Prim.Native.Nat.{ℕ, ◌+◌, ◌-◌, ◌/◌, ◌%◌, ◌≤◌}
@@ -9,11 +9,9 @@ use lib.Seq.{drop-append-add, get_or-append-add, get_or_at}
 use borrow.Author.Tests.{ne_eqb, le-leb}
 use Rattle.octets.specs.Octets.{Bytes, byte_at}
 use Rattle.octets.proofs.Words.{word_of_halves}
-use Rattle.rules.specs.declared.Card.{Card}
 use Rattle.rules.specs.Numbers.{responded}
-use Rattle.rules.specs.Answers.{Answer, response, job}
-use Rattle.rules.specs.Edge.{response_in, written}
-use Rattle.rules.specs.Counting.{Call, exchange_of, status_word, returned_status, wrong_status, ok_status}
+use Rattle.rules.specs.Edge.{response_in}
+use Rattle.rules.specs.Counting.{returned_status, wrong_status, ok_status}
 
 -- A response in the buffer.
 module _ (buffer d : Bytes) (sw : ℕ) where
@@ -36,16 +34,6 @@ module _ (buffer d : Bytes) (sw : ℕ) where
 -- A status word alone.
 pub status_read : (w : Bytes) (sw : ℕ) → returned_status (responded (length {A = ℕ} [] + 2)) (response_in w [] sw) ≡ sw
 status_read w sw = response_status w [] sw
-
--- An answer written: the card is the one given with it, and a status word alone is read back.
-pub card_written : (w : Bytes) (c : Card) (a : Answer) → (written w c a).card ≡ c
-unfolding written
-card_written w c (response d sw) = refl
-card_written w c (job kind key block) = refl
-
-pub word_written : (x : Call) (w : Bytes) (c : Card) (sw : ℕ) → status_word (exchange_of x (written w c (response [] sw))) ≡ sw
-unfolding written
-word_written x w c sw = status_read w sw
 
 -- 63Cx is a wrong answer and no right one.
 pub wrong_status_lem : (t : ℕ) → t ≤ 15 → wrong_status (0x63C0 + t) ≡ true

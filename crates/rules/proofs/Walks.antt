@@ -37,9 +37,8 @@ use Rattle.rules.specs.KeyCommands.{sw_without_pin, set_environment, kind_chosen
 use Rattle.rules.specs.KeyCommands.{internal_authenticate, sign, decipher}
 use Rattle.rules.specs.State.{good}
 use Rattle.rules.specs.Judgement.{judge}
-use Rattle.rules.specs.Delivery.{deliver, withdraw}
-use Rattle.rules.specs.Edge.{Result, refuse, answered, short_buffer, bad_certificate, job_waits, wrong_length, command}
-use Rattle.rules.specs.Edge.{delivery, withdrawal}
+use Rattle.rules.specs.Delivery.{deliver}
+use Rattle.rules.specs.Edge.{Result, refuse, answered, short_buffer, bad_certificate, job_waits, command, delivery}
 use Rattle.rules.specs.Demands.{refusal_status}
 
 -- A refusal: a status word that may not come with data, below 9000h.
@@ -166,16 +165,19 @@ module _ (P : SessionStep → Type 0) (s : Session) where
       (λ e. handed (eqb-true _ _ (not-false _ whole)) (not-false _ e)))))))
 
   pub deliver_walk : (result : Bytes)
+      → P (session_status (with_job s no_job) 0x6400)
       → P (session_status (with_job s no_job) 0x6A80)
       → P (session_status (with_job s no_job) 0x9000)
-      → ((n : ℕ) → P (give (with_job s no_job) s.job.le (drop n result)))
+      → (length result ≡ 256 → (n : ℕ) → P (give (with_job s no_job) s.job.le (drop n result)))
       → P (deliver s result)
   unfolding deliver
-  deliver_walk result broken empty message =
-      split P (not (eqb s.job.kind (kind_number Decipher))) (λ _. message 0)
+  deliver_walk result short broken empty message =
+      split P (not (eqb (length result) 256)) (λ _. short)
+      (λ e. let whole : length result ≡ 256 = eqb-true _ _ (not-false _ e) in
+      split P (not (eqb s.job.kind (kind_number Decipher))) (λ _. message whole 0)
       (λ _. split P (eqb (strip result) 0) (λ _. broken)
       (λ _. split P (eqb (strip result) 256) (λ _. empty)
-      (λ _. message (strip result))))
+      (λ _. message whole (strip result)))))
 
 -- 2A 9E 9A SIGN.
 pub sign_walk : (P : Step → Type 0) (codes : List Code) (counts : List ℕ) (references : Bytes) (s : Session) (h : Header) (d : Bytes)
@@ -258,7 +260,7 @@ reset_retry_walk P codes counts h d none used verified presented =
     (λ n. let some : 1 ≤ count_of counts h.p2 = omega (arith, eqb-false (count_of counts h.p2) 0 n) in
     split P (eqb h.p1 0x03) (λ e. verified blocked some (eqb-true _ _ e)) (presented blocked some)))
 
--- The edge of a command, of a delivery and of a withdrawal.
+-- The edge of a command, and of a delivery.
 pub command_walk : (P : Result → Type 0) (c : Card) (apdu authentication signature buffer : Bytes)
     → ((n : ℕ) → P (refuse c buffer n))
     → (good c ≡ true → short_buffer buffer ≡ false → job_waits c ≡ false → P (answered buffer c (judge c apdu authentication signature)))
@@ -272,23 +274,10 @@ command_walk P c apdu authentication signature buffer refused done =
 
 pub delivery_walk : (P : Result → Type 0) (c : Card) (result buffer : Bytes)
     → ((n : ℕ) → P (refuse c buffer n))
-    → (good c ≡ true → short_buffer buffer ≡ false → length result ≡ 256
-    → P (answered buffer c (in_session c.codes c.counts (deliver c.session result))))
+    → (good c ≡ true → short_buffer buffer ≡ false → P (answered buffer c (in_session c.codes c.counts (deliver c.session result))))
     → P (delivery c result buffer)
 unfolding delivery
 delivery_walk P c result buffer refused done =
-    split P (not (good c)) (λ _. refused 1)
-    (λ g. split P (short_buffer buffer) (λ _. refused 2)
-    (λ room. split P (not (job_waits c)) (λ _. refused 5)
-    (λ _. split P (wrong_length result) (λ _. refused 6)
-    (λ whole. done (not-false _ g) room (eqb-true _ _ (not-false _ whole))))))
-
-pub withdrawal_walk : (P : Result → Type 0) (c : Card) (buffer : Bytes)
-    → ((n : ℕ) → P (refuse c buffer n))
-    → (good c ≡ true → short_buffer buffer ≡ false → P (answered buffer c (in_session c.codes c.counts (withdraw c.session))))
-    → P (withdrawal c buffer)
-unfolding withdrawal
-withdrawal_walk P c buffer refused done =
     split P (not (good c)) (λ _. refused 1)
     (λ g. split P (short_buffer buffer) (λ _. refused 2)
     (λ room. split P (not (job_waits c)) (λ _. refused 5) (λ _. done (not-false _ g) room)))

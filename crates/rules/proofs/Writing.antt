@@ -17,7 +17,7 @@ use Rattle.rules.specs.declared.JobKind.TheVariants.{Authenticate, Sign}
 use Rattle.rules.specs.Numbers.{unwritten, wrote}
 use Rattle.rules.specs.Codes.{PUK, PIN1, PIN2, least, most, value, marked, code_of, closed, no_limit, no_limits, unlimited}
 use Rattle.rules.specs.Keys.{signature_key, authentication_key, of_class, present, usable, active_key}
-use Rattle.rules.specs.State.{good_code, good_codes, good_counts, good_references, good_record, good_records, good_profile, with_counts, good}
+use Rattle.rules.specs.State.{good_code, good_codes, good_counts, good_references, good_record, good_records, good_profile, good}
 use Rattle.rules.specs.Edge.{power_reset}
 use Rattle.rules.specs.Image.{got, continued, pure, byte_if, bytes_if, read_code, code_section, read_key, read_keys, key_section}
 use Rattle.rules.specs.Image.{reference_section, read_personal, read_records, personal_section, count_section, read_counts, end, card_of}
@@ -182,19 +182,13 @@ unfolding personal_section personal_image byte_if
 personals_read rs rest n g =
     subst (λ (m : ℕ). good_records m rs ≡ true → read_records m (records_image rs ++ rest) ≡ got rs rest) n (records_read rs rest) g
 
--- Good counts are two.
-counts_walk : (P : List ℕ → Type 0) (counts : List ℕ) → ((a b : ℕ) → good_counts (a ∷ b ∷ []) ≡ true → P (a ∷ b ∷ [])) → good_counts counts ≡ true → P counts
-counts_walk P [] each g = absurd (omega (arith, two_counts [] g))
-counts_walk P (a ∷ []) each g = absurd (omega (arith, two_counts (a ∷ []) g))
-counts_walk P (a ∷ b ∷ []) each g = each a b g
-counts_walk P (a ∷ b ∷ c ∷ l) each g = absurd (omega (arith, two_counts (a ∷ b ∷ c ∷ l) g))
-
 -- Good counts of which one is not A5h, read back; good counts at the end of an image.
 counts_read : (counts : List ℕ) (rest : Bytes) → good_counts counts ≡ true → unlimited counts ≡ false
     → read_counts (counts_image counts ++ rest) ≡ got counts rest
 unfolding read_counts count_section counts_image
-counts_read counts rest =
-    counts_walk (λ l. unlimited l ≡ false → read_counts (counts_image l ++ rest) ≡ got l rest) counts (λ a b g u.
+counts_read [] rest g u = absurd (omega (arith, two_counts [] g))
+counts_read (a ∷ []) rest g u = absurd (omega (arith, two_counts (a ∷ []) g))
+counts_read (a ∷ b ∷ []) rest g u =
     let each = good_count (a ∷ b ∷ []) g in
     rw (
       u,
@@ -202,12 +196,15 @@ counts_read counts rest =
       byte_read _ 28 a (b ∷ rest) (le-leb a no_limit (each 1 (omega arith) (omega arith))),
       byte_read _ 28 b rest (le-leb b no_limit (each 2 (omega arith) (omega arith))),
       u,
-    ))
+    )
+counts_read (a ∷ b ∷ c ∷ l) rest g u = absurd (omega (arith, two_counts (a ∷ b ∷ c ∷ l) g))
 
 unlimited_counts : (counts : List ℕ) → good_counts counts ≡ true → unlimited counts ≡ true → counts ≡ no_limits
-unlimited_counts counts =
-    counts_walk (λ l. unlimited l ≡ true → l ≡ no_limits) counts (λ a b g u.
-    rw (eqb-true a no_limit (and_left _ (eqb b no_limit) u), eqb-true b no_limit (and_right (eqb a no_limit) _ u)))
+unlimited_counts [] g u = absurd (omega (arith, two_counts [] g))
+unlimited_counts (a ∷ []) g u = absurd (omega (arith, two_counts (a ∷ []) g))
+unlimited_counts (a ∷ b ∷ []) g u =
+    rw (eqb-true a no_limit (and_left _ (eqb b no_limit) u), eqb-true b no_limit (and_right (eqb a no_limit) _ u))
+unlimited_counts (a ∷ b ∷ c ∷ l) g u = absurd (omega (arith, two_counts (a ∷ b ∷ c ∷ l) g))
 
 counts_ended : (counts : List ℕ) → good_counts counts ≡ true → read_counts (counts_image counts ++ []) ≡ got counts []
 unfolding read_counts counts_image
@@ -270,16 +267,19 @@ pub image_most : (c : Card) → good c ≡ true → length (image_of c) ≤ 1118
 image_most c g = (image_sizes c g).1
 
 -- The section of unblocking counts has three bytes more than none.
-pub image_parts : (c : Card) → length (image_of c)
+image_parts : (c : Card) → length (image_of c)
     ≡ length (codes_image c.codes) + (length (keys_image c.profile.keys) + (length (references_image c.profile.references)
     + (length (personal_image c.profile.personal) + length (counts_image c.counts))))
 unfolding image_of
 image_parts c = simp length-append
 
+without_limits : Card → Card
+without_limits c = record { codes = c.codes; counts = no_limits; profile = c.profile; session = c.session }
+
 pub image_limited : (c : Card) → good c ≡ true → unlimited c.counts ≡ false → 87 ≤ length (image_of c)
-unfolding counts_image good_counts
+unfolding without_limits counts_image good_counts
 image_limited c g u =
-    let free : Card = with_counts c no_limits in
+    let free : Card = without_limits c in
     let is_good : good free ≡ true = good_card free (good_codes_lem c g) refl (good_profile_lem c g) (good_session_lem c g) in
     let three : length (counts_image c.counts) ≡ 3 = rw u in
     omega (arith, image_parts c, image_parts free, image_least free is_good, three)

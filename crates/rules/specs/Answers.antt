@@ -7,7 +7,7 @@ use Rattle.rules.specs.declared.CodeStep.{CodeStep}
 use Rattle.rules.specs.declared.Session.{Session}
 use Rattle.rules.specs.Session.{with_held, with_job}
 
--- What a command, a delivery or a withdrawal answers, before it is written to the buffer: response data and a status word,
+-- What a command or a delivery answers, before it is written to the buffer: response data and a status word,
 -- or a job for the key host, by its kind, its key and its 256-byte block.
 pub data Answer : Type 0 where
   response : Bytes → ℕ → Answer

@@ -4,10 +4,9 @@ use Rattle.octets.specs.Octets.{Bytes, same}
 use Rattle.pkcs1.specs.Pkcs1.{pad}
 use Rattle.rules.specs.declared.Card.{Card}
 use Rattle.rules.specs.Numbers.{Returned, edge, responded, handed_out, was_reset, Wrote, unwritten, wrote}
-use Rattle.rules.specs.Codes.{PUK, PIN1, PIN2, code_of}
-use Rattle.rules.specs.State.{with_counts}
+use Rattle.rules.specs.Codes.{PUK, PIN1, PIN2, code_of, no_limit}
 use Rattle.rules.specs.Digests.{sha1_prefix}
-use Rattle.rules.specs.Counting.{Call, Command, Delivery, Withdrawal, PowerReset, trace, after, returned_status, count_at_load}
+use Rattle.rules.specs.Counting.{Call, Command, Delivery, PowerReset, trace, after, returned_status, count_at_load}
 use Rattle.rules.specs.Image.{load}
 use Rattle.rules.specs.Writer.{write}
 use Rattle.rules.specs.Sample.{sample_card, sample_image, puk, pin1, pin2}
@@ -51,6 +50,10 @@ padding n =
     let done = pad (replicate n 0x55) (replicate 256 0x00) in
     pads done.0 (count_ff (drop 2 done.1)) ∷ []
 
+-- A card with other unblocking counts.
+abbrev pub with_counts : Card → List ℕ → Card
+with_counts c counts = record { codes = c.codes; counts = counts; profile = c.profile; session = c.session }
+
 -- The sample card with no byte in its last record.
 abbrev pub empty_record : Card
 empty_record =
@@ -70,7 +73,7 @@ pub record Case : Type 0 where
   pub seen : List Seen
   pub expected : List Seen
 
--- A command with any certificates and a buffer of 258 bytes; a delivery and a withdrawal into such a buffer.
+-- A command with any certificates and a buffer of 258 bytes; a delivery into such a buffer.
 abbrev pub buffer : Bytes
 buffer = replicate 258 0xEE
 
@@ -79,9 +82,6 @@ send apdu = Command apdu (0x30 ∷ []) (0x30 ∷ []) buffer
 
 abbrev pub deliver_to : Bytes → Call
 deliver_to result = Delivery result buffer
-
-abbrev pub withdrawing : Call
-withdrawing = Withdrawal buffer
 
 -- Commands of the cases, by their bytes.
 abbrev pub with_body : ℕ → ℕ → ℕ → ℕ → Bytes → Call
@@ -147,29 +147,14 @@ cases =
           ∷ shows (0x80 ∷ 0x01 ∷ 0x03 ∷ 0x90 ∷ 0x01 ∷ 0x02 ∷ 0x83 ∷ 0x02 ∷ 0x00 ∷ 0x00 ∷ []) 0x9000
           ∷ code PUK 3 false ∷ code PIN1 2 false ∷ code PIN2 3 false ∷ [];
     }
-    -- P2 PIN2 right, sign twice with a delivery of 256 bytes between: job, then 6982
+    -- P2 PIN2 right, sign twice with a delivery between: job, then 6982; a delivery of 256 bytes, and one of none
     ∷ record {
       seen = on_sample (verify_of PIN2 pin2 ∷ sign_sha1 ∷ deliver_to (replicate 256 0x5A) ∷ sign_sha1 ∷ []);
       expected = sw 0x9000 ∷ sign_job ∷ sw 0x6100 ∷ sw 0x6982 ∷ fresh;
     }
-    -- P2 with a delivery of none (02, wish 7): refused, and the job still waits; a withdrawal ends it, and PIN2 stays spent
     ∷ record {
-      seen = on_sample (verify_of PIN2 pin2 ∷ sign_sha1 ∷ deliver_to [] ∷ sign_sha1 ∷ withdrawing ∷ sign_sha1 ∷ []);
-      expected = sw 0x9000 ∷ sign_job ∷ refuses 6 ∷ refuses 4 ∷ sw 0x6400 ∷ sw 0x6982 ∷ fresh;
-    }
-    -- one byte less and one more, then the right delivery; and a withdrawal and a delivery where no job waits
-    ∷ record {
-      seen = on_sample (
-          verify_of PIN2 pin2
-          ∷ sign_sha1
-          ∷ deliver_to (replicate 255 0x5A)
-          ∷ deliver_to (replicate 257 0x5A)
-          ∷ deliver_to (replicate 256 0x5A)
-          ∷ withdrawing
-          ∷ deliver_to []
-          ∷ []
-          );
-      expected = sw 0x9000 ∷ sign_job ∷ refuses 6 ∷ refuses 6 ∷ sw 0x6100 ∷ refuses 5 ∷ refuses 5 ∷ fresh;
+      seen = on_sample (verify_of PIN2 pin2 ∷ sign_sha1 ∷ deliver_to [] ∷ sign_sha1 ∷ []);
+      expected = sw 0x9000 ∷ sign_job ∷ sw 0x6400 ∷ sw 0x6982 ∷ fresh;
     }
     -- P1 and P2 with queries between (02, wish 1): as without them
     ∷ record {
@@ -366,7 +351,7 @@ unfoldable pub limited : List Case
 limited =
     -- at 0 a wrong PUK costs no try, the right one does not help, and one that is not verified is not 6982
     record {
-      seen = on_card (with_counts sample_card (0 ∷ 0xA5 ∷ [])) (
+      seen = on_card (with_counts sample_card (0 ∷ no_limit ∷ [])) (
           wrong_pin1
           ∷ wrong_pin1
           ∷ wrong_pin1
@@ -416,12 +401,15 @@ limited =
     }
     ∷ []
 
+-- The sample image and what stands behind it.
+abbrev pub followed : Bytes → Bytes
+followed d = sample_image ++ d
+
 pub record LimitShown : Type 0 where
   pub runs : map (λ x. x.seen) limited ≡ map (λ x. x.expected) limited
-  -- load's numbers for the sample image and a last section: another count, a missing byte, a byte over A5h, A5h twice, bytes left over; and
-  -- one that loads
+  -- load's numbers for the last section: another count, a missing byte, a byte over A5h, A5h twice, bytes left over; and one that loads
   pub loads :
-      map (λ d. (load (sample_image ++ d)).0)
+      map (λ d. (load (followed d)).0)
       (
       (1 ∷ [])
       ∷ (2 ∷ 0 ∷ [])
@@ -434,7 +422,7 @@ pub record LimitShown : Type 0 where
       ≡ 22 ∷ 21 ∷ 28 ∷ 28 ∷ 27 ∷ 0 ∷ []
   -- the counts at load
   pub counts :
-      map (count_at_load (sample_image ++ 2 ∷ 7 ∷ 9 ∷ [])) (PIN1 ∷ PIN2 ∷ []) ++ map (count_at_load sample_image) (PIN1 ∷ PIN2 ∷ [])
+      map (count_at_load (followed (2 ∷ 7 ∷ 9 ∷ []))) (PIN1 ∷ PIN2 ∷ []) ++ map (count_at_load sample_image) (PIN1 ∷ PIN2 ∷ [])
       ≡ 7 ∷ 9 ∷ 0xA5 ∷ 0xA5 ∷ []
 
 -- The writer (02, wish 3) on a card and a buffer of n bytes EE: what it is to return, and the buffer as it is to leave it.
@@ -464,11 +452,11 @@ writings =
     -- PIN1 blocked and unblocked: there is no limit (02, wish 6), and no section that says so
     ∷ on (after sample_card (wrong_pin1 ∷ wrong_pin1 ∷ wrong_pin1 ∷ unblock_pin1 puk pin1 ∷ [])) 1118 (wrote 84) (sample_image ++ replicate 1034 0xEE)
     -- with a limit on unblocking
-    ∷ on (with_counts sample_card (0 ∷ 0xA5 ∷ [])) 1118 (wrote 87) (sample_image ++ 2 ∷ 0 ∷ 0xA5 ∷ replicate 1031 0xEE)
+    ∷ on (with_counts sample_card (0 ∷ no_limit ∷ [])) 1118 (wrote 87) (sample_image ++ 2 ∷ 0 ∷ 0xA5 ∷ replicate 1031 0xEE)
     -- a bad state before a short buffer
     ∷ on empty_record 0 (unwritten 1) []
     ∷ on empty_record 1118 (unwritten 1) (replicate 1118 0xEE)
-    ∷ on (with_counts sample_card (0xA5 ∷ 0xA6 ∷ [])) 1118 (unwritten 1) (replicate 1118 0xEE)
+    ∷ on (with_counts sample_card (no_limit ∷ 0xA6 ∷ [])) 1118 (unwritten 1) (replicate 1118 0xEE)
     ∷ on sample_card 1117 (unwritten 2) (replicate 1117 0xEE)
     ∷ []
 

@@ -87,8 +87,8 @@ unblock_by_presented_puk codes pin d =
     let stored = unblocked codes pin (with_value (code_of codes pin) new) full_tries in
     replaced codes PUK pin new stored (verdict (code_of codes PUK) (old_value codes PUK d))
 
--- 2C RESET RETRY. PIN has tries: 6A86. Its unblocking count is 0: 6983, before the PUK is looked at (02, wish 6). Else by P1: 03 with the
--- PUK verified before, 00 with the PUK presented.
+-- 2C RESET RETRY. PIN has tries: 6A86. Its unblocking count is 0: 6983, before the PUK is looked at (02, wish 6). P1 03, and P1 00 (the last
+-- row).
 unfoldable pub reset_retry : List Code → List ℕ → Header → Bytes → CodeStep
 reset_retry codes counts h d =
     let pin = h.p2 in

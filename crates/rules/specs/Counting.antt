@@ -11,21 +11,19 @@ use Rattle.rules.specs.Numbers.{refused}
 use Rattle.rules.specs.Codes.{PUK, PIN2, no_limit}
 use Rattle.rules.specs.Apdu.{parse, data_of}
 use Rattle.rules.specs.Judgement.{has_data}
-use Rattle.rules.specs.Edge.{Result, command, delivery, withdrawal, power_reset}
+use Rattle.rules.specs.Edge.{Result, command, delivery, power_reset}
 
 -- A call with all that its caller brings. A command brings its bytes, the authentication certificate, the signature certificate
--- and the buffer; a delivery its result and the buffer; a withdrawal the buffer (02, wish 7).
+-- and the buffer; a delivery its result and the buffer.
 pub data Call : Type 0 where
   Command : Bytes → Bytes → Bytes → Bytes → Call
   Delivery : Bytes → Bytes → Call
-  Withdrawal : Bytes → Call
   PowerReset : Call
 
 -- What a call gives. A power reset has no buffer.
 unfoldable pub step : Card → Call → Result
 step c (Command apdu authentication signature buffer) = command c apdu authentication signature buffer
 step c (Delivery result buffer) = delivery c result buffer
-step c (Withdrawal buffer) = withdrawal c buffer
 step c PowerReset = record { returned = (power_reset c).0; card = (power_reset c).1; buffer = [] }
 
 -- A call, what it returned and what it wrote: all that is counted from.
@@ -82,7 +80,6 @@ form_sends apdu (refused sw) = nothing
 unfoldable pub sent_by : Call → Sent
 sent_by (Command apdu authentication signature buffer) = form_sends apdu (parse apdu)
 sent_by (Delivery result buffer) = nothing
-sent_by (Withdrawal buffer) = nothing
 sent_by PowerReset = nothing
 
 -- What is read off them, or else a default.
@@ -150,7 +147,6 @@ changed k = answers ok_status (changes k)
 abbrev pub by_command : Call → Bool
 by_command (Command apdu authentication signature buffer) = true
 by_command (Delivery result buffer) = false
-by_command (Withdrawal buffer) = false
 by_command PowerReset = false
 
 abbrev pub hands_job : ℕ → Exchange → Bool
@@ -193,7 +189,6 @@ abbrev pub of_bytes : Call → Bool
 of_bytes (Command apdu authentication signature buffer) =
     all_bytes apdu && all_bytes authentication && all_bytes signature && all_bytes buffer
 of_bytes (Delivery result buffer) = all_bytes result && all_bytes buffer
-of_bytes (Withdrawal buffer) = all_bytes buffer
 of_bytes PowerReset = true
 
 abbrev pub all_of_bytes : List Call → Bool

@@ -1,6 +1,5 @@
--- Document 01, "Padding and delivery", parted by document 02, wish 7: what a delivered result gives, and what a withdrawal gives.
--- "Delivery" is document 01's term for the key host's result, "withdrawal" document 02's for its word that none will come.
-use Rattle.std.specs.Prelude.{cond, not, drop, eqb}
+-- Document 01, "Padding and delivery": what a delivered result gives. "Delivery" is document 01's term for the key host's result.
+use Rattle.std.specs.Prelude.{cond, not, length, drop, eqb}
 use Rattle.octets.specs.Octets.{Bytes}
 use Rattle.pkcs1.specs.Pkcs1.{strip}
 use Rattle.rules.specs.declared.Session.{Session}
@@ -9,17 +8,14 @@ use Rattle.rules.specs.Numbers.{kind_number}
 use Rattle.rules.specs.Session.{no_job, with_job}
 use Rattle.rules.specs.Answers.{SessionStep, session_status, give}
 
--- Delivery ends the job. Its result has 256 bytes: the edge refuses any other. Jobs 1 and 2: the 256 bytes, by the job's Le.
+-- Delivery ends the job. Length not 256: 6400. Jobs 1 and 2: the 256 bytes, by the job's Le.
 -- Job 3: the message likewise, 9000 alone if empty, 6A80 if stripping fails.
 unfoldable pub deliver : Session → Bytes → SessionStep
 deliver s result =
     let ended = with_job s no_job in
     let le = s.job.le in
-    cond (not (eqb s.job.kind (kind_number Decipher))) (give ended le result)
+    cond (not (eqb (length result) 256)) (session_status ended 0x6400)
+    (cond (not (eqb s.job.kind (kind_number Decipher))) (give ended le result)
     (cond (eqb (strip result) 0) (session_status ended 0x6A80)
     (cond (eqb (strip result) 256) (session_status ended 0x9000)
-    (give ended le (drop (strip result) result))))
-
--- A withdrawal ends the job with 6400, whatever its kind (02, wish 7).
-unfoldable pub withdraw : Session → SessionStep
-withdraw s = session_status (with_job s no_job) 0x6400
+    (give ended le (drop (strip result) result)))))

@@ -8,14 +8,12 @@ use Rattle.rules.specs.declared.JobKind.TheVariants.{Decipher}
 use Rattle.rules.specs.declared.Session.{Session}
 use Rattle.rules.specs.Numbers.{kind_number, Returned, edge, responded, handed_out, was_reset, refused}
 use Rattle.rules.specs.Codes.{PUK, PIN2, code_of, no_limit, count_of}
-use Rattle.rules.specs.Session.{chain_bytes, with_job, no_job, new_session}
+use Rattle.rules.specs.Session.{chain_bytes, new_session}
 use Rattle.rules.specs.State.{good}
 use Rattle.rules.specs.Apdu.{parse}
-use Rattle.rules.specs.Answers.{in_session}
-use Rattle.rules.specs.Delivery.{deliver}
-use Rattle.rules.specs.Edge.{refuse, answered, wrong_length}
+use Rattle.rules.specs.Edge.{refuse}
 use Rattle.rules.specs.Image.{load, zero_card}
-use Rattle.rules.specs.Counting.{Call, Command, Delivery, Withdrawal, PowerReset, step, next, exchange, after, trace, status_word}
+use Rattle.rules.specs.Counting.{Call, Command, Delivery, PowerReset, step, next, exchange, trace, status_word}
 use Rattle.rules.specs.Counting.{data_sent, wrong_answers, restorations, unblockings, signatures, pin2_presentations, pin2_changes}
 use Rattle.rules.specs.Counting.{is_command, queries, of_bytes, all_of_bytes, tries_at_load, count_at_load}
 
@@ -23,7 +21,6 @@ use Rattle.rules.specs.Counting.{is_command, queries, of_bytes, all_of_bytes, tr
 abbrev pub buffer_of : Call → Bytes
 buffer_of (Command apdu authentication signature buffer) = buffer
 buffer_of (Delivery result buffer) = buffer
-buffer_of (Withdrawal buffer) = buffer
 buffer_of PowerReset = []
 
 -- A buffer that is long enough; a certificate that is neither empty nor too long.
@@ -43,17 +40,13 @@ pub data Due (c : Card) : Call → ℕ → Type 0 where
   command_buffer : (apdu authentication signature buffer : Bytes) → good c ≡ true → length buffer < 258
       → Due c (Command apdu authentication signature buffer) 2
   delivery_buffer : (result buffer : Bytes) → good c ≡ true → length buffer < 258 → Due c (Delivery result buffer) 2
-  withdrawal_buffer : (buffer : Bytes) → good c ≡ true → length buffer < 258 → Due c (Withdrawal buffer) 2
   authentication_certificate : (apdu authentication signature buffer : Bytes) → good c ≡ true → Room buffer
       → ¬ LengthFits authentication → Due c (Command apdu authentication signature buffer) 3
   signature_certificate : (apdu authentication signature buffer : Bytes) → good c ≡ true → Room buffer
       → ¬ LengthFits signature → Due c (Command apdu authentication signature buffer) 3
   job_waiting : (apdu authentication signature buffer : Bytes) → good c ≡ true → Room buffer
       → LengthFits authentication → LengthFits signature → ¬ Idle c → Due c (Command apdu authentication signature buffer) 4
-  nothing_to_deliver : (result buffer : Bytes) → good c ≡ true → Room buffer → Idle c → Due c (Delivery result buffer) 5
-  nothing_to_withdraw : (buffer : Bytes) → good c ≡ true → Room buffer → Idle c → Due c (Withdrawal buffer) 5
-  result_length : (result buffer : Bytes) → good c ≡ true → Room buffer → ¬ Idle c → ¬ (length result ≡ 256)
-      → Due c (Delivery result buffer) 6
+  no_job_waiting : (result buffer : Bytes) → good c ≡ true → Room buffer → Idle c → Due c (Delivery result buffer) 5
 
 -- What each call can return at all.
 pub data Possible : Call → Returned → Type 0 where
@@ -63,7 +56,6 @@ pub data Possible : Call → Returned → Type 0 where
   command_job : (apdu authentication signature buffer : Bytes) (kind key : ℕ) → 1 ≤ kind → kind ≤ 3
       → Possible (Command apdu authentication signature buffer) (handed_out kind key)
   delivery_response : (result buffer : Bytes) (n : ℕ) → 2 ≤ n → n ≤ 258 → Possible (Delivery result buffer) (responded n)
-  withdrawal_response : (buffer : Bytes) → Possible (Withdrawal buffer) (responded 2)
   reset : Possible PowerReset was_reset
 
 -- The block of a job for the key host, handed out in a session for some data: of kinds 1 and 2 the data, padded; of kind 3 the last 256 of
@@ -81,10 +73,6 @@ refusal_status sw = not (eqb sw 0x9000) && not (eqb (sw / 256) 0x61) && not (eqb
 abbrev pub asks_for_more_than : ℕ → Header → Bool
 asks_for_more_than n h =
     eqb h.cla 0x00 && eqb h.ins 0xB0 && ltb h.p1 0x80 && eqb h.lc 0 && ltb n h.le && leb h.le 255
-
--- The card with its job ended, and all else of it as it was.
-abbrev pub job_ended : Card → Card
-job_ended c = record { codes = c.codes; counts = c.counts; profile = c.profile; session = with_job c.session no_job }
 
 -- Demand 1, of one call on one card.
 pub record Defined (c : Card) (x : Call) : Type 0 where
@@ -115,35 +103,11 @@ pub record Demand1 : Type 0 where
       → ((n : ℕ) → ¬ Due c (Command apdu authentication signature buffer) n)
       → ((step c (Command apdu authentication signature buffer)).returned ≡ responded 2)
       × ((step c (Command apdu authentication signature buffer)).buffer ≡ 0x67 ∷ 0x00 ∷ drop 2 buffer)
-  -- a withdrawal that the edge does not refuse ends the job, whatever its kind, and is answered 6400 alone (02, wish 7)
-  pub withdrawn : (c : Card) (buffer : Bytes) → ((n : ℕ) → ¬ Due c (Withdrawal buffer) n)
-      → step c (Withdrawal buffer) ≡ record { returned = responded 2; card = job_ended c; buffer = 0x64 ∷ 0x00 ∷ drop 2 buffer }
-
--- 02, wish 7: a delivery of another length than 256 bytes, and calls that are all such deliveries.
-abbrev pub delivers_amiss : Call → Bool
-delivers_amiss (Command apdu authentication signature buffer) = false
-delivers_amiss (Delivery result buffer) = wrong_length result
-delivers_amiss (Withdrawal buffer) = false
-delivers_amiss PowerReset = false
-
-abbrev pub all_amiss : List Call → Bool
-all_amiss [] = true
-all_amiss (x ∷ xs) = delivers_amiss x && all_amiss xs
-
--- Whatever is delivered of another length, however often, nothing is lost.
-pub record NothingLost : Type 0 where
-  -- the edge refuses it with 6 on every good card with a job waiting, where the buffer is long enough
-  pub refused : (c : Card) (result buffer : Bytes) → good c ≡ true → Room buffer → ¬ Idle c → ¬ (length result ≡ 256)
-      → step c (Delivery result buffer) ≡ refuse c buffer 6
-  -- after any number of them, on any card, the card is as it was
-  pub kept : (c : Card) (calls : List Call) → all_amiss calls ≡ true → after c calls ≡ c
-  -- so every call gives what it gives without them: the same answer, state and buffer
-  pub same : (c : Card) (calls : List Call) (x : Call) → all_amiss calls ≡ true → step (after c calls) x ≡ step c x
-  -- and the right delivery is taken: it is answered by document 01's rule, and ends the job
-  pub taken : (c : Card) (calls : List Call) (result buffer : Bytes) → all_amiss calls ≡ true
-      → good c ≡ true → Room buffer → ¬ Idle c → length result ≡ 256
-      → (step (after c calls) (Delivery result buffer) ≡ answered buffer c (in_session c.codes c.counts (deliver c.session result)))
-      × Idle (next (after c calls) (Delivery result buffer))
+  -- a delivered result whose length is wrong, and which the edge does not refuse, is answered 6400 alone
+  pub misdelivered : (c : Card) (result buffer : Bytes) → ¬ (length result ≡ 256)
+      → ((n : ℕ) → ¬ Due c (Delivery result buffer) n)
+      → ((step c (Delivery result buffer)).returned ≡ responded 2)
+      × ((step c (Delivery result buffer)).buffer ≡ 0x64 ∷ 0x00 ∷ drop 2 buffer)
 
 -- No call changes what load stored beside the codes and the unblocking counts: keys, the record of 0033h, personal records.
 abbrev pub ProfileKept : Type 0
@@ -225,25 +189,6 @@ pub record Uncounted (c : Card) (x : Call) : Type 0 where
 -- 02, wish 1: a VERIFY without data is such a call, on every card, whatever else its bytes are.
 abbrev pub Queries : Type 0
 Queries = (c : Card) (x : Call) → is_command queries x ≡ true → Uncounted c x
-
--- 02, wish 7: PIN2 stays spent either way. What the key host calls, taken or refused, is such a call on every card.
-abbrev pub by_key_host : Call → Bool
-by_key_host (Command apdu authentication signature buffer) = false
-by_key_host (Delivery result buffer) = true
-by_key_host (Withdrawal buffer) = true
-by_key_host PowerReset = false
-
-abbrev pub HostUncounted : Type 0
-HostUncounted = (c : Card) (x : Call) → by_key_host x ≡ true → Uncounted c x
-
--- Nor does such a call change anything of the session but the job and the held answer.
-pub record SessionKept (s t : Session) : Type 0 where
-  pub selection : t.selection ≡ s.selection
-  pub environment : t.environment ≡ s.environment
-  pub chain : t.chain ≡ s.chain
-
-abbrev pub HostKeeps : Type 0
-HostKeeps = (c : Card) (x : Call) → by_key_host x ≡ true → SessionKept c.session (next c x).session
 
 -- Demand 3: one statement over every image that loads and any sequence of calls.
 abbrev pub Demand3 : Type 0

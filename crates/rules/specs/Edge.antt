@@ -1,5 +1,5 @@
--- Document 01, "The edge": the calls command, delivery, withdrawal (02, wish 7) and power reset, and what they write. "Edge refusal" is
--- document 01's term for a refusal by the card's interface itself, before any rule of the card is applied.
+-- Document 01, "The edge": the calls command, delivery and power reset, and what they write. "Edge refusal" is document 01's term
+-- for a refusal by the card's interface itself, before any rule of the card is applied.
 use Rattle.std.specs.Prelude.{ℕ, ◌+◌, ◌/◌, ◌%◌, Bool, cond, not, ◌||◌, ◌∷◌, ◌++◌, length, drop, eqb, ltb}
 use Rattle.octets.specs.Octets.{Bytes}
 use Rattle.rules.specs.declared.Card.{Card}
@@ -9,7 +9,7 @@ use Rattle.rules.specs.Session.{new_session}
 use Rattle.rules.specs.State.{good}
 use Rattle.rules.specs.Answers.{Answer, response, job, Step, in_session}
 use Rattle.rules.specs.Judgement.{judge}
-use Rattle.rules.specs.Delivery.{deliver, withdraw}
+use Rattle.rules.specs.Delivery.{deliver}
 
 -- What a call gives: what it returns, the next card, and the buffer as it leaves it.
 pub record Result : Type 0 where
@@ -50,11 +50,7 @@ bad_certificate certificate = eqb (length certificate) 0 || ltb 1536 (length cer
 abbrev pub job_waits : Card → Bool
 job_waits c = not (eqb c.session.job.kind 0)
 
--- Edge refusal 6: a result of another length than 256 bytes (02, wish 7).
-abbrev pub wrong_length : Bytes → Bool
-wrong_length result = not (eqb (length result) 256)
-
--- A command: the card, its bytes, the authentication and the signature certificate, and the buffer. Edge refusals 1, 2, 3 and 4.
+-- A command: the card, its bytes, the authentication and the signature certificate, and the buffer.
 unfoldable pub command : Card → Bytes → Bytes → Bytes → Bytes → Result
 command c apdu authentication signature buffer =
     cond (not (good c)) (refuse c buffer 1)
@@ -63,22 +59,13 @@ command c apdu authentication signature buffer =
     (cond (job_waits c) (refuse c buffer 4)
     (answered buffer c (judge c apdu authentication signature)))))
 
--- A delivery: the card, the key host's result, and the buffer. Edge refusals 1, 2, 5 and 6 (6 since 02, wish 7).
+-- A delivery: the card, the key host's result, and the buffer.
 unfoldable pub delivery : Card → Bytes → Bytes → Result
 delivery c result buffer =
     cond (not (good c)) (refuse c buffer 1)
     (cond (short_buffer buffer) (refuse c buffer 2)
     (cond (not (job_waits c)) (refuse c buffer 5)
-    (cond (wrong_length result) (refuse c buffer 6)
-    (answered buffer c (in_session c.codes c.counts (deliver c.session result))))))
-
--- A withdrawal (02, wish 7): the card and the buffer. Edge refusals 1, 2 and 5.
-unfoldable pub withdrawal : Card → Bytes → Result
-withdrawal c buffer =
-    cond (not (good c)) (refuse c buffer 1)
-    (cond (short_buffer buffer) (refuse c buffer 2)
-    (cond (not (job_waits c)) (refuse c buffer 5)
-    (answered buffer c (in_session c.codes c.counts (withdraw c.session)))))
+    (answered buffer c (in_session c.codes c.counts (deliver c.session result)))))
 
 -- A power reset, which has no buffer. Marks off and a new session; code values, tries and unblocking counts are kept.
 unfoldable pub power_reset : Card → Returned × Card

@@ -1,11 +1,11 @@
 -- Document 02, wishes 3 and 6, as statements: what the writer answers; that load and the writer are each other's inverse; how many bytes decide
 -- what load answers; demand 3 in the writer's terms. Their proofs stand in proofs/. A byte string is a list of numbers below 256.
-use Rattle.std.specs.Prelude.{ℕ, ◌≤◌, ◌<◌, ◌≡◌, ◌↔◌, true, false, [], ◌∷◌, ◌++◌, length, take, drop}
+use Rattle.std.specs.Prelude.{ℕ, ◌≤◌, ◌<◌, ◌≡◌, ◌↔◌, true, false, List, [], ◌∷◌, ◌++◌, length, take, drop}
 use Rattle.octets.specs.Octets.{Bytes, all_bytes}
 use Rattle.rules.specs.declared.Card.{Card}
 use Rattle.rules.specs.Numbers.{unwritten, wrote}
 use Rattle.rules.specs.Codes.{no_limit, code_of, count_of, unlimited}
-use Rattle.rules.specs.State.{with_counts, good}
+use Rattle.rules.specs.State.{good}
 use Rattle.rules.specs.Edge.{power_reset}
 use Rattle.rules.specs.Image.{load}
 use Rattle.rules.specs.Writer.{image_of, write}
@@ -79,6 +79,12 @@ pub record FirstBytes : Type 0 where
   pub needed : (n : ℕ) → ((image : Bytes) → load (take n image) ≡ load image) → 1119 ≤ n
   pub left_over : (c : Card) → good c ≡ true → unlimited c.counts ≡ false → (x : ℕ) (rest : Bytes) → (load (image_of c ++ x ∷ rest)).0 ≡ 27
 
+-- A card after a power reset, with other unblocking counts.
+abbrev pub reset_with : Card → List ℕ → Card
+reset_with c counts =
+    let new = (power_reset c).1 in
+    record { codes = new.codes; counts = counts; profile = new.profile; session = new.session }
+
 -- What load makes of an image without a section of unblocking counts and of the bytes behind it, which are read as that section (02, wish 6):
 -- of a good card without limits.
 pub record LastSection (c : Card) : Type 0 where
@@ -92,18 +98,16 @@ pub record LastSection (c : Card) : Type 0 where
   pub over_second : (a b : ℕ) (rest : Bytes) → a ≤ no_limit → no_limit < b → (load (image_of c ++ 2 ∷ a ∷ b ∷ rest)).0 ≡ 28
   -- A5h twice, after the second byte and before bytes left over
   pub twice : (rest : Bytes) → (load (image_of c ++ 2 ∷ no_limit ∷ no_limit ∷ rest)).0 ≡ 28
-  -- else it is the card after a power reset, with these counts
+  -- else it is the card with these counts
   pub loads : (a b : ℕ) → a ≤ no_limit → b ≤ no_limit → unlimited (a ∷ b ∷ []) ≡ false
-      → load (image_of c ++ 2 ∷ a ∷ b ∷ []) ≡ (0, with_counts (power_reset c).1 (a ∷ b ∷ []))
+      → load (image_of c ++ 2 ∷ a ∷ b ∷ []) ≡ (0, reset_with c (a ∷ b ∷ []))
 
 abbrev pub LastSections : Type 0
 LastSections = (c : Card) → good c ≡ true → unlimited c.counts ≡ true → LastSection c
 
--- An image of real bytes that loads, with three tries on each code and the count n for PIN k, and calls of real bytes with n unblockings
--- of that PIN.
+-- An image that loads, with three tries on each code and the count n for PIN k, and calls of real bytes with n unblockings of that PIN.
 pub record LimitReached (n k : ℕ) : Type 0 where
   pub image : Bytes
-  pub of_bytes : all_bytes image ≡ true
   pub loads : (load image).0 ≡ 0
   pub three : (j : ℕ) → j < 3 → tries_at_load image j ≡ 3
   pub count : count_at_load image k ≡ n

@@ -12,7 +12,7 @@ use Rattle.rules.specs.declared.JobKind.{JobKind}
 use Rattle.rules.specs.declared.JobKind.TheVariants.{Authenticate, Sign, Decipher}
 use Rattle.rules.specs.declared.Refusal.{Refusal}
 use Rattle.rules.specs.declared.Refusal.TheVariants.{BadState, ShortBuffer, CertificateLength, JobWaiting}
-use Rattle.rules.specs.declared.Refusal.TheVariants.{NoJobWaiting, ResultLength}
+use Rattle.rules.specs.declared.Refusal.TheVariants.{NoJobWaiting}
 use Rattle.rules.specs.declared.Reply.{Reply}
 use Rattle.rules.specs.declared.Reply.TheVariants.{Refused, Response, HandedOut, WasReset}
 use Rattle.rules.specs.declared.Fault.{Fault}
@@ -29,14 +29,13 @@ kind_number Authenticate = 1
 kind_number Sign = 2
 kind_number Decipher = 3
 
--- The edge's refusals, 1 to 6 (6 since 02, wish 7).
+-- The edge's refusals, 1 to 5.
 abbrev pub refusal_number : Refusal → ℕ
 refusal_number BadState = 1
 refusal_number ShortBuffer = 2
 refusal_number CertificateLength = 3
 refusal_number JobWaiting = 4
 refusal_number NoJobWaiting = 5
-refusal_number ResultLength = 6
 
 -- What a call returns: an edge refusal's number; a response's length; a job's kind and key; or that a reset was done.
 pub data Returned : Type 0 where

@@ -138,10 +138,6 @@ good_session keys s =
     ∷ []
     )
 
--- A card with other unblocking counts.
-abbrev pub with_counts : Card → List ℕ → Card
-with_counts c counts = record { codes = c.codes; counts = counts; profile = c.profile; session = c.session }
-
 -- A good state.
 unfoldable pub good : Card → Bool
 good c =

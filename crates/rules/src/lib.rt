@@ -179,7 +179,7 @@ pub struct CodeStep {
     pub sw: u16,
 }
 
-// The edge's refusals; `refusal_number` gives their numbers, document 01's and document 02's.
+// The edge's refusals; `refusal_number` gives document 01's numbers.
 #[derive(Drop)]
 pub enum Refusal {
     BadState,
@@ -187,7 +187,6 @@ pub enum Refusal {
     CertificateLength,
     JobWaiting,
     NoJobWaiting,
-    ResultLength,
 }
 
 // The kinds of a job; `kind_number` gives document 01's numbers.
@@ -214,7 +213,7 @@ pub struct Outcome {
     pub reply: Reply,
 }
 
-// The faults of a card image; `fault_number` gives their numbers, document 01's and document 02's.
+// The faults of a card image; `fault_number` gives document 01's numbers.
 #[derive(Drop)]
 pub enum Fault {
     EndsEarly,
@@ -227,7 +226,7 @@ pub enum Fault {
     UnblockingCount,
 }
 
-// What load answers; `load_number` gives it in these numbers.
+// What load answers; `load_number` gives document 01's numbers.
 #[derive(Drop)]
 pub enum LoadResult {
     Accepted,

@@ -11,11 +11,12 @@ use Rattle.octets.proofs.Tests.{split, by_test, and_left, and_right}
 use Rattle.hex.specs.Hex.{hex_of}
 use Rattle.hex.proofs.Laws.{length_hex_of}
 use Rattle.rules.specs.declared.Card.{Card}
-use Rattle.rules.specs.Numbers.{Returned, responded, handed_out}
+use Rattle.rules.specs.Numbers.{Returned, edge, responded, handed_out, was_reset}
+use Rattle.rules.specs.Edge.{command, delivery, power_reset}
 use Rattle.rules.specs.Image.{load}
 use Rattle.rules.specs.Writer.{image_of, write}
-use Rattle.rules.specs.Counting.{Call, Command, Delivery, Withdrawal, PowerReset, step}
-use Rattle.rules.specs.Demands.{Possible, edge_refusal, command_response, command_job, delivery_response, withdrawal_response, reset}
+use Rattle.rules.specs.Counting.{Call, Command, Delivery, PowerReset, step}
+use Rattle.rules.specs.Demands.{Possible, edge_refusal, command_response, command_job, delivery_response, reset}
 use Rattle.rules.proofs.Demand1.{demand_1}
 use Rattle.rules.proofs.Writing.{image_most}
 use Rattle.rules.proofs.ImageLaws.{write_ways}
@@ -25,7 +26,7 @@ use Rattle.requests.specs.Requests.{Request, line_feed, most_buffer, stands_in}
 use Rattle.lines.specs.Lines.{Setup, answer_to, setup_after, line_answer, answer_buffer, answer_line}
 use Rattle.line_texts.specs.Texts.{reply_text, load_text, saved_text}
 use Rattle.requests.proofs.Requests.{Cases, every_request}
-use Rattle.transcripts.specs.Transcript.{run, kept_line, most_text, ShortOutput}
+use Rattle.transcripts.specs.Transcript.{Program, run, kept_line, most_text, ShortOutput}
 use Rattle.transcripts.proofs.Runs.{at_end_lem, at_feed, at_other, next_line, one_more}
 
 -- What a call can return is short.
@@ -49,7 +50,6 @@ reply_short d (edge_refusal x n) b = omega (arith, small d)
 reply_short d (command_response apdu authentication signature buffer n l m) b = response_short d n b m
 reply_short d (command_job apdu authentication signature buffer kind key l m) b = job_short d kind key b
 reply_short d (delivery_response result buffer n l m) b = response_short d n b m
-reply_short d (withdrawal_response buffer) b = response_short d 2 b (omega arith)
 reply_short d reset b = omega (arith, small d)
 
 load_short : (d : Dialect) (n : ℕ) → length (load_text n ++ line_feed ∷ []) ≤ most_text d
@@ -100,9 +100,6 @@ module _ (d : Dialect) (s : Setup) (e : Lent s) where
     deliveries = λ b f h.
         let x = Delivery b (answer_buffer s) in
         (reply_short d (demand_1.defined s.card x (rw (f, blank_bytes (min s.buffer most_buffer)))).possible _, e);
-    withdrawals =
-        let x = Withdrawal (answer_buffer s) in
-        (reply_short d (demand_1.defined s.card x (blank_bytes (min s.buffer most_buffer))).possible _, e);
     images = λ b f h. (load_short d (load b).0, e);
     authentications = λ b f h. (omega (arith, small d), rw (f, second));
     signatures = λ b f h. (omega (arith, small d), rw (first, f));

@@ -9,9 +9,8 @@ use second::state::*;
 use second::transcript::Transcript;
 use second::CardState;
 
-/// As many seeds and lines as `.ci/compare` takes.
-pub const SEEDS: u64 = 12;
-const LINES: usize = 20_000;
+pub const SEEDS: u64 = 8;
+const LINES: usize = 10_000;
 
 /// Tries and mark of each code.
 pub type Codes = [(u8, bool); 3];

@@ -1,5 +1,5 @@
 use native.Mathlib.Omega.{arith}
-use Rattle.digests.proofs.Prefixes.{wrong_length_lem, right_length}
+use Rattle.digests.proofs.Prefixes.{wrong_length, right_length}
 use borrow.Author.Rules.{rules}
 use Rattle.digests.proofs.prefixed.Statement.{statement}
 use Rattle.digests.proofs.prefixed.Tie as tie
@@ -7,7 +7,7 @@ use Rattle.digests.proofs.prefixed.Tie as tie
 returns : tie.Need-returns
 returns c =
     let s = c.before.before.before.args in
-    wrong_length_lem s.prefix.now s.n s.d.now (omega arith)
+    wrong_length s.prefix.now s.n s.d.now (omega arith)
 
 sub-if2 : tie.Need-overflow-sub-if2
 sub-if2 c = search rules
@@ -15,7 +15,7 @@ sub-if2 c = search rules
 returns-2 : tie.Need-returns-2
 returns-2 c =
     let s = c.before.before.before.before.args in
-    wrong_length_lem s.prefix.now s.n s.d.now (omega arith)
+    wrong_length s.prefix.now s.n s.d.now (omega arith)
 
 part-requires : tie.Need-part-requires
 part-requires c κs = search rules

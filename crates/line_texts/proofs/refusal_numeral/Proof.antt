@@ -17,9 +17,6 @@ enum-told-4 c = search rules
 enum-told-5 : tie.Need-enum-told-5
 enum-told-5 c = search rules
 
-enum-told-6 : tie.Need-enum-told-6
-enum-told-6 c = search rules
-
 returns : tie.Need-returns
 returns c = simp c.enum_told.given.1
 
@@ -35,9 +32,6 @@ returns-4 c = simp c.enum-told4.given.1
 returns-5 : tie.Need-returns-5
 returns-5 c = simp c.enum-told5.given.1
 
-returns-6 : tie.Need-returns-6
-returns-6 c = simp c.enum-told6.given.1
-
 pub refusal-numeral-spec : {M : Type 1} → statement M
 refusal-numeral-spec =
     tie.close
@@ -47,10 +41,8 @@ refusal-numeral-spec =
     enum-told-3
     enum-told-4
     enum-told-5
-    enum-told-6
     returns
     returns-2
     returns-3
     returns-4
-    returns-5
-    returns-6)
+    returns-5)

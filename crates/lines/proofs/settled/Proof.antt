@@ -51,9 +51,6 @@ enum-told-5 c = search rules
 enum-told-6 : tie.Need-enum-told-6
 enum-told-6 c = search rules
 
-enum-told-7 : tie.Need-enum-told-7
-enum-told-7 c = search rules
-
 returns : tie.Need-returns
 unfolding setup_after
 returns c =
@@ -108,12 +105,6 @@ returns-9 c =
     let a = c.before.before.before.before.before.before.before.before.args in
     rw c.enum-told6.given.1 (lent_kept a.terminal a.authentication.now a.signature.now (ap length c.before.before.before.before.before.part.ensures) (ap length c.before.before.part2.ensures) c.before.before.before.before.before.before.part-arg2.given.0 c.before.before.before.part-arg4.given.0)
 
-returns-10 : tie.Need-returns-10
-unfolding setup_after
-returns-10 c =
-    let a = c.before.before.before.before.before.before.before.before.args in
-    rw c.enum-told7.given.1 (lent_kept a.terminal a.authentication.now a.signature.now (ap length c.before.before.before.before.before.part.ensures) (ap length c.before.before.part2.ensures) c.before.before.before.before.before.before.part-arg2.given.0 c.before.before.before.part-arg4.given.0)
-
 pub settled-spec : {M : Type 1} → statement M
 settled-spec =
     tie.close
@@ -133,7 +124,6 @@ settled-spec =
     enum-told-4
     enum-told-5
     enum-told-6
-    enum-told-7
     returns
     returns-2
     returns-3
@@ -142,5 +132,4 @@ settled-spec =
     returns-6
     returns-7
     returns-8
-    returns-9
-    returns-10)
+    returns-9)
