@@ -1,3 +1,5 @@
+#![tactic(auto)]
+
 // Arrays of bytes in the sizes that the card stores.
 ghost use Rattle.std.specs.Prelude.{◌≡◌, take};
 ghost use Rattle.octets.specs.Octets.{filled};

@@ -1,3 +1,5 @@
+#![tactic(auto)]
+
 // Bytes as numbers, numbers as bytes, and a sum with a limit.
 ghost use Rattle.std.specs.Prelude.{◌≡◌, ◌+◌, ◌/◌, ◌%◌, min};
 ghost use Rattle.octets.specs.Octets.{word};

@@ -1,3 +1,5 @@
+#![tactic(auto)]
+
 // Slices of bytes: what is asked of them. Every function takes every input.
 // The definitions that the contracts cite stand in specs/, their laws in proofs/.
 ghost use Rattle.std.specs.Prelude.{◌≡◌, take, drop};

@@ -1,3 +1,5 @@
+#![tactic(auto)]
+
 // RSA block padding of RFC 8017, for 256-byte blocks. The key host is written in C and calls the two exported functions.
 ghost use Rattle.std.specs.Prelude.{◌≡◌, ◌+◌, ◌≤◌, length, drop, ltb};
 ghost use Rattle.octets.specs.Octets.{pasted};

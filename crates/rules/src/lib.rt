@@ -4,7 +4,7 @@ ghost use Rattle.rules.specs.Codes.{least};
 
 // One code: PUK, PIN1 or PIN2.
 #[repr(C)]
-#[derive(Drop)]
+#[derive(Clone, Copy)]
 pub struct Code {
     pub digits: [u8; 12],
     pub len: u8,
@@ -42,7 +42,7 @@ impl Code {
 
 // A personal record of file 5044h.
 #[repr(C)]
-#[derive(Drop)]
+#[derive(Clone, Copy)]
 pub struct Record {
     pub bytes: [u8; 64],
     pub len: u8,
@@ -51,7 +51,7 @@ pub struct Record {
 // What load stores and no call changes: which of the keys 0100h, 0200h, 1100h, 1200h are present, the record of 0033h, and
 // the personal records.
 #[repr(C)]
-#[derive(Drop)]
+#[derive(Clone, Copy)]
 pub struct Profile {
     pub keys: [bool; 4],
     pub references: [u8; 21],
@@ -60,7 +60,7 @@ pub struct Profile {
 
 // The current directory and file; file 0 is none.
 #[repr(C)]
-#[derive(Drop)]
+#[derive(Clone, Copy)]
 pub struct Selection {
     pub directory: u16,
     pub file: u16,
@@ -68,7 +68,7 @@ pub struct Selection {
 
 // The security environment: its number, and the key chosen for job kinds 1 to 3; 0 is "active".
 #[repr(C)]
-#[derive(Drop)]
+#[derive(Clone, Copy)]
 pub struct Environment {
     pub number: u16,
     pub choices: [u16; 3],
@@ -76,7 +76,7 @@ pub struct Environment {
 
 // The held answer, which GET RESPONSE reads.
 #[repr(C)]
-#[derive(Drop)]
+#[derive(Clone, Copy)]
 pub struct Held {
     pub bytes: [u8; 256],
     pub len: u16,
@@ -85,7 +85,7 @@ pub struct Held {
 // The chain: the parts of a cryptogram that DECIPHER joins, at most 257 bytes. The last place stays empty, so that no padding
 // stands before the length.
 #[repr(C)]
-#[derive(Drop)]
+#[derive(Clone, Copy)]
 pub struct Chain {
     pub bytes: [u8; 258],
     pub len: u16,
@@ -93,7 +93,7 @@ pub struct Chain {
 
 // The waiting job: kind 1 to 3, or 0 for none; its key; its Le, or 0 for none.
 #[repr(C)]
-#[derive(Drop)]
+#[derive(Clone, Copy)]
 pub struct Job {
     pub kind: u16,
     pub key: u16,
@@ -102,7 +102,7 @@ pub struct Job {
 
 // What a power reset clears, beside the verified marks.
 #[repr(C)]
-#[derive(Drop)]
+#[derive(Clone, Copy)]
 pub struct Session {
     pub selection: Selection,
     pub environment: Environment,
@@ -114,7 +114,7 @@ pub struct Session {
 // The card. Beside its codes stand the unblocking counts of PIN1 and PIN2, in this order: a code that is stored anew leaves
 // them as they are. Widths and order of all its fields leave no padding between or behind them.
 #[repr(C)]
-#[derive(Drop)]
+#[derive(Clone, Copy)]
 pub struct Card {
     pub codes: [Code; 3],
     pub counts: [u8; 2],
@@ -123,7 +123,7 @@ pub struct Card {
 }
 
 // A command APDU's header, its Lc (0 where it has no data) and its Le (0 where it has none).
-#[derive(Drop)]
+#[derive(Clone, Copy)]
 pub struct Header {
     pub cla: u8,
     pub ins: u8,
@@ -134,14 +134,14 @@ pub struct Header {
 }
 
 // What the length form of a command gives: its header and where its data starts. `length_form` says what each case is.
-#[derive(Drop)]
+#[derive(Clone, Copy)]
 pub enum Parsed {
     Form(Header, usize),
     Malformed,
 }
 
 // The commands, in document 01's order.
-#[derive(Drop)]
+#[derive(Clone, Copy)]
 pub enum Command {
     Select,
     ReadRecord,
@@ -158,14 +158,14 @@ pub enum Command {
 }
 
 // The command that a header names, if any.
-#[derive(Drop)]
+#[derive(Clone, Copy)]
 pub enum Named {
     Is(Command),
     Nothing,
 }
 
 // How a presented value is judged.
-#[derive(Drop)]
+#[derive(Clone, Copy)]
 pub enum Verdict {
     Right,
     Wrong,
@@ -173,14 +173,14 @@ pub enum Verdict {
 }
 
 // The codes after a command, and the status word that is its whole answer.
-#[derive(Drop)]
+#[derive(Clone, Copy)]
 pub struct CodeStep {
     pub codes: [Code; 3],
     pub sw: u16,
 }
 
 // The edge's refusals; `refusal_number` gives document 01's numbers.
-#[derive(Drop)]
+#[derive(Clone, Copy)]
 pub enum Refusal {
     BadState,
     ShortBuffer,
@@ -190,7 +190,7 @@ pub enum Refusal {
 }
 
 // The kinds of a job; `kind_number` gives document 01's numbers.
-#[derive(Drop)]
+#[derive(Clone, Copy)]
 pub enum JobKind {
     Authenticate,
     Sign,
@@ -199,7 +199,7 @@ pub enum JobKind {
 
 // What a call returns beside the card: an edge refusal; the length of a response in the buffer; a job's kind and key,
 // its block in the buffer; or that a power reset was done. `returned` gives document 01's numbers.
-#[derive(Drop)]
+#[derive(Clone, Copy)]
 pub enum Reply {
     Refused(Refusal),
     Response(usize),
@@ -207,14 +207,14 @@ pub enum Reply {
     WasReset,
 }
 
-#[derive(Drop)]
+#[derive(Clone, Copy)]
 pub struct Outcome {
     pub card: Card,
     pub reply: Reply,
 }
 
 // The faults of a card image; `fault_number` gives document 01's numbers.
-#[derive(Drop)]
+#[derive(Clone, Copy)]
 pub enum Fault {
     EndsEarly,
     WrongCount,
@@ -227,21 +227,21 @@ pub enum Fault {
 }
 
 // What load answers; `load_number` gives document 01's numbers.
-#[derive(Drop)]
+#[derive(Clone, Copy)]
 pub enum LoadResult {
     Accepted,
     Faulty(Fault),
 }
 
 // What load returns: a card, or a fault beside the all-zero state.
-#[derive(Drop)]
+#[derive(Clone, Copy)]
 pub struct Loaded {
     pub card: Card,
     pub result: LoadResult,
 }
 
 // What the writer answers: an edge refusal, or the length of the image in the buffer. `wrote_of` gives document 02's numbers.
-#[derive(Drop)]
+#[derive(Clone, Copy)]
 pub enum WriteResult {
     NotWritten(Refusal),
     Written(usize),

@@ -1,3 +1,5 @@
+#![tactic(auto)]
+
 // What is written into a slice of bytes. Every function takes every input.
 ghost use Rattle.std.specs.Prelude.{◌≡◌, ◌-◌, min, replicate};
 ghost use Rattle.octets.specs.Octets.{pasted};
