@@ -1,3 +1,5 @@
+#![tactic(auto)]
+
 // The card's state and what its calls answer. The rules stand in specs/, in the order of document 01.
 ghost use Rattle.std.specs.Prelude.{◌≡◌};
 ghost use Rattle.rules.specs.Codes.{least};

@@ -1,0 +1,15 @@
+use borrow.Author.Tests.{eq-eqb, ne_eqb}
+use Rattle.rules.specs.Codes.{least}
+use Rattle.rules.proofs.Code.least.Goals as goal
+
+pub returns-in-0 : goal.returns-in-0
+unfolding least
+returns-in-0 c = simp (eq-eqb _ _ c.in-0.is)
+
+pub returns-in-1 : goal.returns-in-1
+unfolding least
+returns-in-1 c = simp c.in-1.is
+
+pub returns-in_default : goal.returns-in_default
+unfolding least
+returns-in_default c = simp (ne_eqb _ _ c.in_default.in_default-own.rest.0.1, ne_eqb _ _ c.in_default.in_default-own.rest.1)
