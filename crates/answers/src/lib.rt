@@ -8,7 +8,7 @@ use rules::{Card, JobKind, Outcome, Refusal, Reply};
 
 // What is answered, in bytes[..len]: kind 0 is a response with its status word; kind 1 to 3 is a job of that kind with its
 // key. Unused places are zero.
-#[derive(Drop)]
+#[derive(Clone, Copy)]
 pub struct Output {
     pub kind: u16,
     pub key: u16,

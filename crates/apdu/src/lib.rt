@@ -1,3 +1,5 @@
+#![tactic(auto)]
+
 // A command APDU: its length form.
 ghost use Rattle.std.specs.Prelude.{◌≡◌};
 ghost use Rattle.rules.specs.Numbers.{length_form};

@@ -1,3 +1,5 @@
+#![tactic(auto)]
+
 // The three codes of a card and the unblocking counts of its PINs, by the codes' numbers, read and replaced.
 ghost use Rattle.std.specs.Prelude.{◌≡◌, ◌-◌};
 ghost use Rattle.rules.specs.Codes.{zero_code, code_of, with_code, closed, count_of, with_count};

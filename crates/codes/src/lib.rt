@@ -1,3 +1,5 @@
+#![tactic(auto)]
+
 // One code: what values it may have, how it stores one, and whether it is good.
 ghost use Rattle.std.specs.Prelude.{◌≡◌, take};
 ghost use Rattle.rules.specs.Codes.{allowed, storing};

@@ -1,9 +1,11 @@
+#![tactic(auto)]
+
 // The DigestInfo forms that SIGN accepts.
 ghost use Rattle.std.specs.Prelude.{◌≡◌};
 ghost use Rattle.rules.specs.Digests.{prefixed, row, sha2_form, fits, is_digest};
 
 // What differs between the SHA-2 forms: L, A and H of document 01, in this order.
-#[derive(Drop)]
+#[derive(Clone, Copy)]
 struct Row(u8, u8, u8);
 
 // Whether d is a prefix and n bytes.

@@ -1,3 +1,5 @@
+#![tactic(auto)]
+
 // The files: their directories, their records, and the certificates that two of them show.
 ghost use Rattle.std.specs.Prelude.{◌≡◌, length, take, drop};
 ghost use Rattle.octets.specs.Octets.{member};

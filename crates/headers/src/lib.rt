@@ -1,3 +1,5 @@
+#![tactic(auto)]
+
 // The tests of a command's header that come before the command's own rules.
 ghost use Rattle.std.specs.Prelude.{◌≡◌, cond, ◌&&◌, eqb};
 ghost use Rattle.rules.specs.Numbers.{naming};

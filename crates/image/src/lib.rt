@@ -12,69 +12,69 @@ use image_reader::NextByte;
 use rules::{Card, Code, Fault, JobKind, LoadResult, Loaded, Profile, Record};
 
 // How far reading has come: to a position, or to the first fault, after which nothing more is read.
-#[derive(Drop)]
+#[derive(Clone, Copy)]
 enum Cursor {
     At(usize),
     Stopped(Fault),
 }
 
-#[derive(Drop)]
+#[derive(Clone, Copy)]
 struct ReadByte {
     byte: u8,
     cursor: Cursor,
 }
 
 // The bytes that were asked for stand first, at most 255 of them.
-#[derive(Drop)]
+#[derive(Clone, Copy)]
 struct ReadBytes {
     bytes: [u8; 256],
     cursor: Cursor,
 }
 
-#[derive(Drop)]
+#[derive(Clone, Copy)]
 struct ReadCode {
     code: Code,
     cursor: Cursor,
 }
 
-#[derive(Drop)]
+#[derive(Clone, Copy)]
 struct ReadCodes {
     codes: [Code; 3],
     cursor: Cursor,
 }
 
-#[derive(Drop)]
+#[derive(Clone, Copy)]
 struct ReadKey {
     key: u16,
     cursor: Cursor,
 }
 
 // Which of the four keys were read.
-#[derive(Drop)]
+#[derive(Clone, Copy)]
 struct ReadKeys {
     keys: [bool; 4],
     cursor: Cursor,
 }
 
-#[derive(Drop)]
+#[derive(Clone, Copy)]
 struct ReadReferences {
     references: [u8; 21],
     cursor: Cursor,
 }
 
-#[derive(Drop)]
+#[derive(Clone, Copy)]
 struct ReadCounts {
     counts: [u8; 2],
     cursor: Cursor,
 }
 
-#[derive(Drop)]
+#[derive(Clone, Copy)]
 struct ReadRecord {
     personal: Record,
     cursor: Cursor,
 }
 
-#[derive(Drop)]
+#[derive(Clone, Copy)]
 struct ReadRecords {
     personal: [Record; 16],
     cursor: Cursor,

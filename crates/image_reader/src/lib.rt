@@ -5,21 +5,21 @@ ghost use Rattle.std.specs.Prelude.{◌≡◌, ℕ, take, drop};
 ghost use Rattle.octets.specs.Octets.{Bytes};
 ghost use Rattle.image_reader.specs.Reading.{standing, next_at, place_after, reader_at, reader_after};
 
-#[derive(Drop)]
+#[derive(Clone, Copy)]
 struct Reader<'a> {
     image: &'a [u8],
     at: usize,
 }
 
 // What stands at a position; `standing` says what each case is.
-#[derive(Drop)]
+#[derive(Clone, Copy)]
 pub enum NextByte {
     Byte(u8),
     End,
 }
 
 // What stands at a position, and the place after it.
-#[derive(Drop)]
+#[derive(Clone, Copy)]
 pub struct Found {
     pub next: NextByte,
     pub place: usize,

@@ -1,3 +1,5 @@
+#![tactic(auto)]
+
 // The kinds of jobs by their numbers, and the keys: their classes, which are present, and which is active.
 ghost use Rattle.std.specs.Prelude.{◌≡◌};
 ghost use Rattle.rules.specs.Numbers.{kind_number};

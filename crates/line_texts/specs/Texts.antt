@@ -1,7 +1,7 @@
 -- What a line of output says: of what a call returned, and of what load and the writer answered.
 use Rattle.std.specs.Prelude.{ℕ, ◌+◌, ◌/◌, ◌%◌, cond, [], ◌∷◌, ◌++◌, take, eqb}
 use Rattle.octets.specs.Octets.{Bytes}
-use Rattle.hex.specs.Hex.{hex_of}
+use Rattle.hexadecimal.specs.Hex.{hex_of}
 use Rattle.rules.specs.Numbers.{Returned, edge, responded, handed_out, was_reset, Wrote, unwritten, wrote}
 use Rattle.requests.specs.declared.Dialect.{Dialect}
 use Rattle.requests.specs.declared.Dialect.TheVariants.{Transcript, StandIn}

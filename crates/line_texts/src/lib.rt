@@ -1,6 +1,6 @@
 // A line of output, written. Every public function takes every input.
 ghost use Rattle.std.specs.Prelude.{◌≡◌, [], ◌∷◌, ◌++◌, take};
-ghost use Rattle.hex.specs.Hex.{hex_of};
+ghost use Rattle.hexadecimal.specs.Hex.{hex_of};
 ghost use Rattle.rules.specs.Numbers.{kind_number, refusal_number, returned, handed_out, fault_number, load_number, wrote_of};
 ghost use Rattle.requests.specs.Requests.{line_feed};
 ghost use Rattle.writing.specs.Puts.{Put};
@@ -38,7 +38,7 @@ fn put_lettered(letter: u8, n: usize, buffer: &[u8], output: &mut [u8], at: usiz
 {
     let text = [letter];
     let start = writing::put(output, at, &text);
-    hex::hex_at(output, start, octets::part(buffer, 0, n))
+    hexadecimal::hex_at(output, start, octets::part(buffer, 0, n))
 }
 
 // What stands behind a job's key.
@@ -49,7 +49,7 @@ fn put_block(dialect: Dialect, buffer: &[u8], output: &mut [u8], at: usize) -> u
         Dialect::Transcript => writing::put(output, at, b""),
         Dialect::StandIn => {
             let start = writing::put(output, at, b" ");
-            hex::hex_at(output, start, octets::part(buffer, 0, 256))
+            hexadecimal::hex_at(output, start, octets::part(buffer, 0, 256))
         }
     }
 }
@@ -68,7 +68,7 @@ fn put_job(
     let head = [b'J', kind_numeral(kind), b' '];
     let named = writing::put(output, at, &head);
     let bytes = [numbers::high(key), numbers::low(key)];
-    let coded = hex::hex_at(output, named, &bytes);
+    let coded = hexadecimal::hex_at(output, named, &bytes);
     put_block(dialect, buffer, output, coded)
 }
 

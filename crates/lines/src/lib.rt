@@ -17,7 +17,7 @@ use rules::Card;
 
 // What a program holds between two lines: the card, how many bytes each of the lent certificates has, and the size of the answer
 // buffer. The certificates stand in rooms of 2,048 bytes, which are lent beside it.
-#[derive(Drop)]
+#[derive(Clone, Copy)]
 pub struct Terminal {
     pub card: Card,
     pub authentication: usize,
@@ -26,7 +26,7 @@ pub struct Terminal {
 }
 
 // A line answered: the terminal after it, and the place behind its line of output.
-#[derive(Drop)]
+#[derive(Clone, Copy)]
 pub struct Answered {
     pub terminal: Terminal,
     pub end: usize,
@@ -39,7 +39,7 @@ fn blank_4096() -> [u8; 4096]
 }
 
 // A card after a line that changes nothing else, and the place behind the line of output.
-#[derive(Drop)]
+#[derive(Clone, Copy)]
 pub struct Carried {
     pub card: Card,
     pub end: usize,

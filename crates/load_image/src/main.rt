@@ -6,7 +6,7 @@ use rules::{Card, Code, Fault, LoadResult, Record};
 // A name, and bytes in hex.
 fn put_bytes(text: &mut [u8], at: usize, name: &[u8], s: &[u8]) -> usize {
     let named = writing::put(text, at, name);
-    let end = hex::hex_at(text, named, s);
+    let end = hexadecimal::hex_at(text, named, s);
     writing::put(text, end, b"\n")
 }
 

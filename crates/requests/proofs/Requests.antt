@@ -11,8 +11,8 @@ use lib.Seq.{drop-cons}
 use borrow.Author.Tests.{ltb-false, lt-ltb, le-ltb, le-leb, lt-leb}
 use Rattle.octets.specs.Octets.{Bytes, byte_at, same, every, all_digits, all_bytes, pasted}
 use Rattle.octets.proofs.Tests.{split, and_left}
-use Rattle.hex.specs.Hex.{is_hex, bytes_of}
-use Rattle.hex.proofs.Laws.{bytes_of_bytes, length_bytes_of}
+use Rattle.hexadecimal.specs.Hex.{is_hex, bytes_of}
+use Rattle.hexadecimal.proofs.Laws.{bytes_of_bytes, length_bytes_of}
 use Rattle.requests.specs.declared.Dialect.{Dialect}
 use Rattle.requests.specs.declared.Dialect.TheVariants.{Transcript, StandIn}
 use Rattle.requests.specs.Requests.{

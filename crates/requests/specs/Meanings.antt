@@ -1,7 +1,7 @@
 -- What the code holds of a request. No rule of the lines stands here.
 use Rattle.std.specs.Prelude.{[], ◌∷◌, cond, not, ◌&&◌, length, take, drop, eqb, ltb}
 use Rattle.octets.specs.Octets.{Bytes, byte_at, same, pasted}
-use Rattle.hex.specs.Hex.{is_hex, bytes_of}
+use Rattle.hexadecimal.specs.Hex.{is_hex, bytes_of}
 use Rattle.requests.specs.Requests.{
   Request,
   reset,

@@ -2,7 +2,7 @@
 -- image to load or to write, the certificates and the answer buffer beside them.
 use Rattle.std.specs.Prelude.{ℕ, ◌+◌, ◌-◌, ◌*◌, Bool, true, false, cond, not, ◌&&◌, ◌||◌, [], ◌∷◌, length, drop, eqb, leb, ltb}
 use Rattle.octets.specs.Octets.{Bytes, byte_at, same, every, all_digits}
-use Rattle.hex.specs.Hex.{is_hex, bytes_of}
+use Rattle.hexadecimal.specs.Hex.{is_hex, bytes_of}
 use Rattle.requests.specs.declared.Dialect.{Dialect}
 use Rattle.requests.specs.declared.Dialect.TheVariants.{Transcript, StandIn}
 

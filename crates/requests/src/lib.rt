@@ -5,7 +5,7 @@ ghost use Rattle.requests.specs.Requests.{longest, stands_in, decimal, size_requ
 ghost use Rattle.requests.specs.Meanings.{meant, room_after};
 
 // The two programs: document 01's transcript program, and the stand-in.
-#[derive(Drop)]
+#[derive(Clone, Copy)]
 pub enum Dialect {
     Transcript,
     StandIn,
@@ -32,7 +32,7 @@ fn stands_in(dialect: Dialect) -> bool
 }
 
 // What a line asks for; of bytes only how many there are.
-#[derive(Drop)]
+#[derive(Clone, Copy)]
 pub enum Meaning {
     Reset,
     Command(usize),
@@ -139,9 +139,9 @@ pub fn asked(dialect: Dialect, line: &[u8], room: &mut [u8; 2048]) -> Meaning
     if further & (letter == b'B') {
         return size_asked(rest);
     }
-    if !hex::is_hex(rest) {
+    if !hexadecimal::is_hex(rest) {
         return Meaning::Other;
     }
-    let n = hex::bytes_of(rest, room);
+    let n = hexadecimal::bytes_of(rest, room);
     hex_asked(dialect, letter, n)
 }

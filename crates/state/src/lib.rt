@@ -1,3 +1,5 @@
+#![tactic(auto)]
+
 // Selection, environment and job of a session replaced.
 ghost use Rattle.std.specs.Prelude.{◌≡◌};
 ghost use Rattle.rules.specs.Session.{with_selection, with_environment, with_job};

@@ -8,14 +8,14 @@ use answers::Output;
 use rules::{Code, CodeStep, Job, JobKind, Session};
 
 // After a command that changes nothing but the session.
-#[derive(Drop)]
+#[derive(Clone, Copy)]
 pub struct SessionOutput {
     pub session: Session,
     pub output: Output,
 }
 
 // After any command: what else the card has no command changes.
-#[derive(Drop)]
+#[derive(Clone, Copy)]
 pub struct StepOutput {
     pub codes: [Code; 3],
     pub counts: [u8; 2],

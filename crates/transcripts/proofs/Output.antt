@@ -8,8 +8,8 @@ use lib.Dec.{eqb}
 use lib.ListN.{length, take, drop, length-append, length-take}
 use Rattle.octets.specs.Octets.{Bytes, all_bytes, blank}
 use Rattle.octets.proofs.Tests.{split, by_test, and_left, and_right}
-use Rattle.hex.specs.Hex.{hex_of}
-use Rattle.hex.proofs.Laws.{length_hex_of}
+use Rattle.hexadecimal.specs.Hex.{hex_of}
+use Rattle.hexadecimal.proofs.Laws.{length_hex_of}
 use Rattle.rules.specs.declared.Card.{Card}
 use Rattle.rules.specs.Numbers.{Returned, edge, responded, handed_out, was_reset}
 use Rattle.rules.specs.Edge.{command, delivery, power_reset}

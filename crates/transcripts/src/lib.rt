@@ -10,21 +10,21 @@ use requests::Dialect;
 
 // A program between two characters: the terminal, and how many characters of the line have come. The line stands in a room of 4,097
 // bytes, which is lent beside it as those of the certificates are.
-#[derive(Drop)]
+#[derive(Clone, Copy)]
 pub struct Console {
     pub terminal: Terminal,
     pub line: usize,
 }
 
 // The program after some input, and how much it has written.
-#[derive(Drop)]
+#[derive(Clone, Copy)]
 pub struct Progress {
     pub console: Console,
     pub written: usize,
 }
 
 // The first line of an input read: also how much of the input that was.
-#[derive(Drop)]
+#[derive(Clone, Copy)]
 pub struct FirstLine {
     pub console: Console,
     pub written: usize,

@@ -1,5 +1,5 @@
 use mathlib.Core.Path.{ap}
-use Rattle.hex.specs.Hex.{hex_of}
+use Rattle.hexadecimal.specs.Hex.{hex_of}
 use Rattle.writing.proofs.Puts.{put_then, put_same}
 use Rattle.line_texts.proofs.Texts.{put_hex}
 use borrow.Author.Rules.{rules}

@@ -1,7 +1,7 @@
 use mathlib.Core.Path.{ap, ap₂}
 use mathlib.Core.List.{[], ◌∷◌}
 use Prim.Native.Nat.{ℕ}
-use Rattle.hex.specs.Hex.{hex_of}
+use Rattle.hexadecimal.specs.Hex.{hex_of}
 use Rattle.line_texts.specs.Texts.{reply_text}
 use Rattle.writing.proofs.Puts.{put_then, put_same}
 use Rattle.line_texts.proofs.Texts.{put_hex}

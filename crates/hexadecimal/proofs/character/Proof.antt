@@ -1,0 +1,22 @@
+use borrow.Author.Rules.{rules}
+use borrow.Author.Tests.{lt-ltb, le-ltb}
+use Rattle.hexadecimal.specs.Hex.{hex_character}
+use Rattle.hexadecimal.proofs.character.Statement.{statement}
+use Rattle.hexadecimal.proofs.character.Tie as tie
+
+add-result : tie.Need-overflow-add-result
+add-result c = search rules
+
+returns : tie.Need-returns
+unfolding hex_character
+returns c = rw (lt-ltb _ _ c.if1.true)
+
+add-result-2 : tie.Need-overflow-add-result-2
+add-result-2 c = search rules
+
+returns-2 : tie.Need-returns-2
+unfolding hex_character
+returns-2 c = rw (le-ltb _ _ c.if1.false)
+
+pub character-spec : {M : Type 1} → statement M
+character-spec = tie.close (tie.spec add-result returns add-result-2 returns-2)
