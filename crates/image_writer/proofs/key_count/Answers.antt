@@ -1,4 +1,4 @@
-use mathlib.Core.List.{◌∷◌}
+use mathlib.Core.List.{[], ◌∷◌}
 use native.Mathlib.Omega.{arith}
 use Rattle.image_writer.proofs.Keys.{key_counted}
 use Rattle.image_writer.proofs.key_count.Goals as goal

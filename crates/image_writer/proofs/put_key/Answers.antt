@@ -1,5 +1,5 @@
 use mathlib.Core.Path.{sym, ap, ap₂, ◌∙◌}
-use mathlib.Core.List.{◌∷◌}
+use mathlib.Core.List.{[], ◌∷◌}
 use Prim.Native.Nat.{ℕ}
 use Rattle.writing.proofs.Puts.{put_same}
 use Rattle.rules.specs.Writer.{key_bytes}

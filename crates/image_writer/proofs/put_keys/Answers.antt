@@ -1,5 +1,5 @@
 use mathlib.Core.Path.{ap}
-use mathlib.Core.List.{◌∷◌}
+use mathlib.Core.List.{[], ◌∷◌}
 use Prim.Native.Nat.{ℕ}
 use Rattle.writing.proofs.Puts.{put_then, put_same}
 use Rattle.rules.specs.Writer.{keys_image}

@@ -1,4 +1,4 @@
-use mathlib.Core.List.{◌∷◌}
+use mathlib.Core.List.{[], ◌∷◌}
 use Rattle.writing.proofs.Puts.{put_then, put_same}
 use Rattle.image_writer.proofs.Keys.{keys_behind}
 use Rattle.image_writer.proofs.put_two_keys.Goals as goal
