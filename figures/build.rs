@@ -1,4 +1,4 @@
-//! Links the archive of crates/pkcs1.
+//! Links the archive of crates/pkcs1_c, as host/build leaves it.
 
 fn main() {
     let archive = concat!(env!("CARGO_MANIFEST_DIR"), "/../target/staticlib");

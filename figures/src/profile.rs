@@ -37,15 +37,15 @@ impl Profile {
     pub fn print(&self, many: &Input, few: &Input) {
         println!("\n## Where it goes\n");
         paragraph(&format!(
-            "`target/bin/transcript`'s time on {} lines, as perf samples it, and its instructions on {} lines, as valgrind
+            "`transcript`'s time on {} lines, as perf samples it, and its instructions on {} lines, as valgrind
             counts them, as parts of the whole. A function that the compiler put into its caller counts as the caller. To see
             it again, the time and then the instructions:",
             many.name, few.name
         ));
         println!("    second/target/release/generate 1 {} >lines", many.lines);
-        println!("    perf record -e cpu-clock -o perf.data target/bin/transcript <lines >/dev/null");
+        println!("    perf record -e cpu-clock -o perf.data crates/transcript/out/transcript <lines >/dev/null");
         println!("    perf report -i perf.data --stdio");
-        println!("    head -n {} lines | valgrind --tool=callgrind --callgrind-out-file=callgrind.out target/bin/transcript >/dev/null", few.lines);
+        println!("    head -n {} lines | valgrind --tool=callgrind --callgrind-out-file=callgrind.out crates/transcript/out/transcript >/dev/null", few.lines);
         println!("    callgrind_annotate callgrind.out\n");
         println!("| function | time | instructions |\n|---|---|---|");
         let shown = |parts: &Parts, part: f64| if parts.is_empty() { "not counted".to_string() } else { format!("{part:.2}") };
@@ -123,7 +123,7 @@ fn perf_line(line: &str) -> Option<(f64, String)> {
     Some((percent.trim().parse().ok()?, name))
 }
 
-/// `15,772,873 (29.58%)  ???:good_state::good [target/bin/transcript]`
+/// `15,772,873 (29.58%)  ???:good_state::good [crates/transcript/out/transcript]`
 fn valgrind_line(line: &str) -> Option<(f64, String)> {
     let (percent, rest) = line.split_once('(')?.1.split_once("%)")?;
     let symbol = rest.split_once(':')?.1;

@@ -80,7 +80,7 @@ fn generated(folder: &Path) -> io::Result<Vec<Input>> {
 fn print_speed(transcript: &Program, second: &Program, inputs: &[Input], times: &[Times], by_line: &Times) {
     println!("\n## Transcript lines per second\n");
     paragraph(&format!(
-        "`target/bin/transcript` against `second-transcript`, both built for release, with the same certificates and the same
+        "`transcript` against `second-transcript`, both built for release, with the same certificates and the same
         answers, on the same generated lines (seed {SEED}): from a file, output to /dev/null, wall time of the whole run; in the
         last row by pipes, each line written when the one before it has been answered. The best of {RUNS} runs in turns. Both
         answer all that a read gave them before they read again, and write these answers together: {} On a shared machine
@@ -109,7 +109,7 @@ fn calls(transcript: &Program, second: &Program, input: &Input) -> String {
 fn print_flatness(transcript: &Program, inputs: &[Input], times: &[Times], goals: &mut Goals) {
     println!("\n## Time per line\n");
     paragraph(&format!(
-        "The same runs of `target/bin/transcript`; each smaller input is the beginning of the next larger one. Time for a line,
+        "The same runs of `transcript`; each smaller input is the beginning of the next larger one. Time for a line,
         and instructions for a line as valgrind counts them, each against {} lines.",
         inputs[0].name
     ));
@@ -136,7 +136,7 @@ fn print_flatness(transcript: &Program, inputs: &[Input], times: &[Times], goals
 fn print_memory(transcript: &Program, inputs: &[Input], folder: &Path, goals: &mut Goals) -> io::Result<()> {
     println!("\n## Memory\n");
     paragraph(&format!(
-        "The most memory that `target/bin/transcript` held (VmHWM) when it had answered all lines and waited for more; the last
+        "The most memory that `transcript` held (VmHWM) when it had answered all lines and waited for more; the last
         input is one line of {} million characters.",
         LONG_LINE / 1_000_000
     ));
