@@ -1,8 +1,8 @@
-/* The two functions that crates/pkcs1 exports for the key host: RSA block padding and stripping
- * (RFC 8017, PKCS #1 v1.5) for RSA 2048. The archive is built by `rt staticlib pkcs1`.
+/* The two functions that crates/pkcs1_c exports for the key host: RSA block padding and stripping
+ * (RFC 8017, PKCS #1 v1.5) for RSA 2048. The archive is built by `host/build --only-archive`.
  *
  * A slice of bytes passes as a pointer and then a length. Nothing compares this file with
- * crates/pkcs1/src/lib.rt: whoever changes the one changes the other.
+ * crates/pkcs1_c/src/lib.rt: whoever changes the one changes the other.
  *
  * What the caller owes:
  *   - a pointer is not NULL, also where its length is 0;
