@@ -1,3 +1,5 @@
+#![tactic(auto)]
+
 // What a command or a delivery answers, and the one function that writes it to a caller's buffer.
 ghost use Rattle.std.specs.Prelude.{◌≡◌, [], take};
 ghost use Rattle.rules.specs.Numbers.{kind_number, returned};

@@ -1,3 +1,5 @@
+#![tactic(auto)]
+
 // The faults of a card image.
 ghost use Rattle.std.specs.Prelude.{◌≡◌};
 ghost use Rattle.rules.specs.Numbers.{fault_number};

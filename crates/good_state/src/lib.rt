@@ -1,3 +1,5 @@
+#![tactic(auto)]
+
 // Whether a card state is good, for every state value whatever.
 ghost use Rattle.std.specs.Prelude.{◌≡◌, length, eqb, ◌||◌};
 ghost use Rattle.rules.specs.Keys.{usable};

@@ -1,6 +1,7 @@
-// A card image read byte by byte. A reader holds the image and a position in it. The borrow checker covers no function over such
-// a struct, so `new`, `next`, `after` and `place` are proved by hand, and so is `read_at`, which has plain parameters and stands
-// above them; `byte_from` and `place_from`, which take a plain slice, do the work.
+#![tactic(auto)]
+
+// A card image read byte by byte. A reader holds the image and a position in it; `byte_from` and `place_from`, which take a plain
+// slice, do the work.
 ghost use Rattle.std.specs.Prelude.{◌≡◌, ℕ, take, drop};
 ghost use Rattle.octets.specs.Octets.{Bytes};
 ghost use Rattle.image_reader.specs.Reading.{standing, next_at, place_after, reader_at, reader_after};

@@ -1,3 +1,5 @@
+#![tactic(auto)]
+
 // What waits in a session for the next command, the held answer and the chain, replaced and dropped; and a new session, in
 // which nothing waits.
 ghost use Rattle.std.specs.Prelude.{◌≡◌, take};

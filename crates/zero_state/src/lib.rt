@@ -1,3 +1,5 @@
+#![tactic(auto)]
+
 // The all-zero state, which is not good: what load gives beside a fault.
 ghost use Rattle.std.specs.Prelude.{◌≡◌, replicate};
 ghost use Rattle.rules.specs.Codes.{zero_code};

@@ -1,0 +1,16 @@
+use native.Mathlib.Omega.{arith}
+use mathlib.Core.Path.{◌≡◌}
+use lib.ListN.{take}
+use Rattle.octets.specs.Octets.{Bytes}
+use Rattle.octets.proofs.Strings.{take_twice}
+use Rattle.octets.proofs.Cutting.{cut_length}
+use Rattle.pending.proofs.holding.Goals as goal
+
+pub overflow_cast-len : goal.overflow_cast-len
+overflow_cast-len c = omega (arith, cut_length 256 c.part-kept.result.now c.args.d.now c.part-kept.ensures)
+
+pub returns : goal.returns
+returns c =
+    let d : Bytes = c.args.d.now in
+    let kept : c.part-kept.result.now ≡ take 256 d = c.part-kept.ensures in
+    simp (c.filled_256.ensures, kept, take_twice 256 d)

@@ -1,0 +1,4 @@
+use Rattle.pending.proofs.with_held.Goals as goal
+
+pub returns : goal.returns
+returns c = simp c.holding-held.ensures
