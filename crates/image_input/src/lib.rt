@@ -19,18 +19,18 @@ pub struct ImageRead {
 
 // Reads once, behind the first `have` bytes, which stay.
 fn read_more<R: Read, E: Write>(
-    input: &mut R,
-    errors: &mut E,
+    stdin: &mut R,
+    stderr: &mut E,
     image: &mut [u8],
     have: usize,
 ) -> ImageRead
     requires { have ≤ length image.old }
     ensures len_value { (result.len ≡ have + result.last.count) × (result.len ≤ length image.old) × IsReading result.last }
     ensures image_unchanged { take have image.new ≡ take have image.old }
-    ensures bytes { Consumes (R.remaining input.old) (R.remaining input.new) (take result.last.count (drop have image.new)) }
-    ensures end { IsTrue result.last.ended → have < length image.old → IsAtEnd (R.remaining input.new) }
+    ensures bytes { Consumes (R.remaining stdin.old) (R.remaining stdin.new) (take result.last.count (drop have image.new)) }
+    ensures end { IsTrue result.last.ended → have < length image.old → IsAtEnd (R.remaining stdin.new) }
 {
-    let reading = streams::read(input, errors, &mut image[have..]);
+    let reading = streams::read(stdin, stderr, &mut image[have..]);
     ImageRead {
         len: have + reading.count,
         last: reading,
@@ -39,14 +39,14 @@ fn read_more<R: Read, E: Write>(
 
 // Reads until the input ends, a reading fails or the room is full. A proved loop has to end, and nothing says that the input does: so
 // the loop has a number of turns that no run uses up; what follows it says that there is more to read.
-pub fn read_image<R: Read, E: Write>(input: &mut R, errors: &mut E, image: &mut [u8]) -> ImageRead
+pub fn read_image<R: Read, E: Write>(stdin: &mut R, stderr: &mut E, image: &mut [u8]) -> ImageRead
     ensures read { ReadInto (length image.old) result }
-    ensures bytes { Consumes (R.remaining input.old) (R.remaining input.new) (take result.len image.new) }
-    ensures end { IsTrue result.last.ended → result.len < length image.old → IsAtEnd (R.remaining input.new) }
+    ensures bytes { Consumes (R.remaining stdin.old) (R.remaining stdin.new) (take result.len image.new) }
+    ensures end { IsTrue result.last.ended → result.len < length image.old → IsAtEnd (R.remaining stdin.new) }
 {
     let mut have = 0;
     for _turn in 0..u64::MAX {
-        let read = read_more(input, errors, image, have);
+        let read = read_more(stdin, stderr, image, have);
         let reading = read.last;
         have = read.len;
         if !reading.more | (have == image.len()) {

@@ -1,6 +1,7 @@
 -- The program that a line program has come to. Which bytes the system brought no contract can say (docs/DECISIONS.md): there is some input
--- from which the program follows.
-use Rattle.std.specs.Prelude.{◌≡◌, Bool, cond}
+-- from which the program follows. Where the reader knows its bytes, that input is what it lost of them.
+use Rattle.std.specs.Prelude.{◌≡◌, Bool, Option, cond}
+use Rattle.std.specs.Io.KnownBytes.{Consumes}
 use Rattle.octets.specs.Octets.{Bytes}
 use Rattle.requests.specs.declared.Dialect.{Dialect}
 use Rattle.transcripts.specs.Transcript.{Program, run, start, finished}
@@ -9,8 +10,9 @@ use Rattle.streams.specs.Streams.{IsReading}
 use Rattle.line_programs.specs.declared.Stopped.{Stopped}
 
 -- Some input was read from a program on, and the code holds the program after it.
-pub record SomeRead (d : Dialect) (p : Program) (l a s : Bytes) (r : Stopped) : Type 0 where
+pub record SomeRead (d : Dialect) (p : Program) (l a s : Bytes) (before after : Option Bytes) (r : Stopped) : Type 0 where
   pub input : Bytes
+  pub read : Consumes before after input
   pub held : Holds (run d p input).program l a s r.console
   pub last : IsReading r.last
 
@@ -19,7 +21,8 @@ abbrev pub at_stop : Dialect → Bool → Program → Program
 at_stop d ended p = cond ended (finished d p).program p
 
 -- A line program from its start, with the sample card and these certificates, to where it stopped.
-pub record Ran (d : Dialect) (authentication signature : Bytes) (r : Stopped) : Type 0 where
+pub record Ran (d : Dialect) (authentication signature : Bytes) (before after : Option Bytes) (r : Stopped) : Type 0 where
   pub input : Bytes
+  pub read : Consumes before after input
   pub last : IsReading r.last
   pub console : r.console ≡ console_for (at_stop d r.last.ended (run d (start d authentication signature) input).program)

@@ -1,20 +1,22 @@
+#![tactic(auto)]
+
 // The line programs: standard input read, answered and written to standard output.
 pub mod certificates;
 
 ghost use Rattle.std.specs.Prelude.{◌*◌, ◌≤◌, take};
-ghost use Rattle.libc.specs.Io.{Moved};
+ghost use Rattle.std.specs.Io.KnownBytes.{Consumes};
 ghost use Rattle.transcripts.specs.Transcript.{run, most_text};
 ghost use Rattle.transcripts.specs.Consoles.{program_of, Holds, Reads};
-ghost use Rattle.streams.specs.Streams.{IsReading};
+ghost use Rattle.streams.specs.Streams.{IsReading, Moved};
 ghost use Rattle.line_programs.specs.Programs.{SomeRead, Ran};
 
-use libc::STDOUT_FILENO;
 use requests::Dialect;
+use std::io::{Read, Write};
 use streams::Reading;
 use transcripts::{Console, Progress};
 
 // One more reading: what came, the program after it, and whether to go on.
-#[derive(Drop)]
+#[derive(Clone, Copy)]
 pub struct Turn {
     pub reading: Reading,
     pub progress: Progress,
@@ -22,8 +24,9 @@ pub struct Turn {
 }
 
 // Writes the front of the output.
-fn written(output: &[u8], n: usize) -> bool {
-    streams::written_or_said(io::write_all(STDOUT_FILENO, octets::part(output, 0, n)))
+fn written<W: Write, E: Write>(stdout: &mut W, stderr: &mut E, output: &[u8], n: usize) -> bool {
+    let outcome = streams::write_all(stdout, octets::part(output, 0, n));
+    streams::written_or_said(stderr, outcome)
 }
 
 // How many bytes a program reads at once. Each gives at most 518 characters, or 2,238 of the stand-in (`ShortOutput`), so that 524,288
@@ -38,19 +41,28 @@ fn at_once(dialect: Dialect) -> usize
 }
 
 // Reads once, at most so many bytes, to the front of the input.
-fn read_within(input: &mut [u8], most: usize) -> Reading
-    ensures { IsReading result × Moved most result.got }
+fn read_within<R: Read, E: Write>(
+    stdin: &mut R,
+    stderr: &mut E,
+    input: &mut [u8],
+    most: usize,
+) -> Reading
+    ensures reading { IsReading result × Moved most result.got }
+    ensures bytes { Consumes (R.remaining stdin.old) (R.remaining stdin.new) (take result.count input.new) }
 {
     if most < input.len() {
-        return streams::read(&mut input[..most]);
+        return streams::read(stdin, stderr, &mut input[..most]);
     }
-    streams::read(input)
+    streams::read(stdin, stderr, input)
 }
 
 // Reads once, and answers what came.
-fn read_some(
+fn read_some<R: Read, W: Write, E: Write>(
     dialect: Dialect,
     console: Console,
+    stdin: &mut R,
+    stdout: &mut W,
+    stderr: &mut E,
     input: &mut [u8; 1006],
     line: &mut [u8; 4097],
     authentication: &mut [u8; 2048],
@@ -58,9 +70,10 @@ fn read_some(
     output: &mut [u8],
 ) -> Turn
     ensures reading { IsReading result.reading }
+    ensures bytes { Consumes (R.remaining stdin.old) (R.remaining stdin.new) (take result.reading.count input.new) }
     ensures reads { Reads (run dialect (program_of dialect console line.old authentication.old signature.old) (take result.reading.count input.new)) output.old line.new authentication.new signature.new output.new result.progress }
 {
-    let reading = read_within(input, at_once(dialect));
+    let reading = read_within(stdin, stderr, input, at_once(dialect));
     let progress = transcripts::read(
         dialect,
         console,
@@ -70,26 +83,29 @@ fn read_some(
         signature,
         output,
     );
-    let sent = written(output, progress.written);
+    let sent = written(stdout, stderr, output, progress.written);
     Turn {
-        reading: reading,
-        progress: progress,
+        reading,
+        progress,
         more: reading.more & sent,
     }
 }
 
 // The program where reading stopped, and the last reading.
-#[derive(Drop)]
+#[derive(Clone, Copy)]
 pub struct Stopped {
     pub console: Console,
     pub last: Reading,
 }
 
-// A proved loop has to end, and nothing says that the input does. So the loop counts its turns down, from a number that no run uses up;
-// what follows it says that there is more to read.
-fn read_all(
+// A proved loop has to end, and nothing says that the input does. So the loop has a number of turns that no run uses up; what follows it
+// says that there is more to read.
+fn read_all<R: Read, W: Write, E: Write>(
     dialect: Dialect,
     console: Console,
+    stdin: &mut R,
+    stdout: &mut W,
+    stderr: &mut E,
     input: &mut [u8; 1006],
     line: &mut [u8; 4097],
     authentication: &mut [u8; 2048],
@@ -97,14 +113,16 @@ fn read_all(
     output: &mut [u8],
 ) -> Stopped
     requires { Holds (program_of dialect console line.old authentication.old signature.old) line.old authentication.old signature.old console }
-    ensures { SomeRead dialect (program_of dialect console line.old authentication.old signature.old) line.new authentication.new signature.new result }
+    ensures { SomeRead dialect (program_of dialect console line.old authentication.old signature.old) line.new authentication.new signature.new (R.remaining stdin.old) (R.remaining stdin.new) result }
 {
     let mut next = console;
-    let mut left = u64::MAX;
-    while 0 < left {
+    for _turn in 0..u64::MAX {
         let turn = read_some(
             dialect,
             next,
+            stdin,
+            stdout,
+            stderr,
             input,
             line,
             authentication,
@@ -120,7 +138,6 @@ fn read_all(
                 last: reading,
             };
         }
-        left -= 1;
     }
     let last = Reading {
         got: 1,
@@ -131,14 +148,21 @@ fn read_all(
     };
     Stopped {
         console: next,
-        last: last,
+        last,
     }
 }
 
 // Answers standard input, from the sample card on, with the authentication certificate first and the signature certificate second
 // (of each at most 2,048 bytes).
-pub fn run<'a>(dialect: Dialect, first: &'a [u8], second: &'a [u8]) -> Stopped
-    ensures { Ran dialect (take 2048 first.now) (take 2048 second.now) result }
+pub fn run<'a, R: Read, W: Write, E: Write>(
+    dialect: Dialect,
+    stdin: &mut R,
+    stdout: &mut W,
+    stderr: &mut E,
+    first: &'a [u8],
+    second: &'a [u8],
+) -> Stopped
+    ensures { Ran dialect (take 2048 first.now) (take 2048 second.now) (R.remaining stdin.old) (R.remaining stdin.new) result }
 {
     let mut input = [0u8; 1006];
     let mut line = [0u8; 4097];
@@ -156,6 +180,9 @@ pub fn run<'a>(dialect: Dialect, first: &'a [u8], second: &'a [u8]) -> Stopped
     let stopped = read_all(
         dialect,
         console,
+        stdin,
+        stdout,
+        stderr,
         &mut input,
         &mut line,
         &mut authentication,
@@ -174,10 +201,10 @@ pub fn run<'a>(dialect: Dialect, first: &'a [u8], second: &'a [u8]) -> Stopped
         &mut signature,
         &mut output,
     );
-    written(&output, last.written);
+    written(stdout, stderr, &output, last.written);
     let console = last.console;
     Stopped {
-        console: console,
+        console,
         last: reading,
     }
 }

@@ -45,17 +45,17 @@ fn reads_on(got: isize, interrupted: bool) -> bool
     !at_end(got) & (!failed(got) | interrupted)
 }
 
-// Reads the input once. The bytes that came are the first of the room. A failure is said, unless a signal interrupted the reading.
-pub fn read<R: Read, E: Write>(input: &mut R, errors: &mut E, room: &mut [u8]) -> Reading
+// Reads standard input once. The bytes that came are the first of the room. A failure is said, unless a signal interrupted the reading.
+pub fn read<R: Read, E: Write>(stdin: &mut R, stderr: &mut E, room: &mut [u8]) -> Reading
     ensures value { result ≡ reading_for result.got result.interrupted }
     ensures moved { Moved (length room.old) result.got }
     ensures prefix_len { IsPrefixLen result.count room.new }
-    ensures bytes { Consumes (R.remaining input.old) (R.remaining input.new) (take result.count room.new) }
-    ensures end { IsTrue result.ended → 0 < length room.old → IsAtEnd (R.remaining input.new) }
+    ensures bytes { Consumes (R.remaining stdin.old) (R.remaining stdin.new) (take result.count room.new) }
+    ensures end { IsTrue result.ended → 0 < length room.old → IsAtEnd (R.remaining stdin.new) }
 {
-    let (got, count, interrupted) = match input.read(room) {
+    let (got, count, interrupted) = match stdin.read(room) {
         Ok(n) => (n as isize, n, false),
-        Err(why) => (-1, 0, interrupted_or_said(errors, why)),
+        Err(why) => (-1, 0, interrupted_or_said(stderr, why)),
     };
     Reading {
         got,
@@ -67,12 +67,12 @@ pub fn read<R: Read, E: Write>(input: &mut R, errors: &mut E, room: &mut [u8]) -
 }
 
 // Whether a reading failed because a signal interrupted it; any other failure is said.
-fn interrupted_or_said<E: Write>(errors: &mut E, why: io::Error) -> bool
+fn interrupted_or_said<E: Write>(stderr: &mut E, why: io::Error) -> bool
     ensures { IsTrue result ↔ (error_kind why ≡ ErrorKind.Interrupted) }
 {
     let interrupted = why.kind() == ErrorKind::Interrupted;
     if !interrupted {
-        say(errors, b"cannot read standard input", why);
+        say(stderr, b"cannot read standard input", why);
     }
     interrupted
 }
@@ -95,12 +95,12 @@ pub fn write_all<W: Write>(output: &mut W, text: &[u8]) -> io::Result<()>
 }
 
 // Takes whether all was written to standard output, says it where not, and answers the same.
-pub fn written_or_said<E: Write>(errors: &mut E, outcome: io::Result<()>) -> bool
+pub fn written_or_said<E: Write>(stderr: &mut E, outcome: io::Result<()>) -> bool
     ensures { result ≡ is_ok outcome }
 {
     let written = outcome.is_ok();
     if let Err(why) = outcome {
-        say(errors, b"cannot write to standard output", why);
+        say(stderr, b"cannot write to standard output", why);
     }
     written
 }
@@ -116,24 +116,24 @@ pub fn argument_count(rt: &impl Env) -> usize {
 }
 
 // Whether a program that takes no arguments was given none beside its name; where it was given any, its use is said.
-pub fn without_arguments<E: Write>(errors: &mut E, count: usize, usage: &[u8]) -> bool
+pub fn without_arguments<E: Write>(stderr: &mut E, count: usize, usage: &[u8]) -> bool
     ensures { result ≡ nat_le count 1 }
 {
     if 1 < count {
-        let _ = write_all(errors, usage);
+        let _ = write_all(stderr, usage);
         return false;
     }
     true
 }
 
 // Writes a line: what failed, a colon and the system's words for why. Where that fails too, there is nobody to tell.
-fn say<E: Write>(errors: &mut E, what: &[u8], why: io::Error) {
+fn say<E: Write>(stderr: &mut E, what: &[u8], why: io::Error) {
     let mut text = [0u8; 256];
     let len = put_words(&mut text, why);
-    let _ = write_all(errors, what);
-    let _ = write_all(errors, b": ");
-    let _ = write_all(errors, &text[..len]);
-    let _ = write_all(errors, b"\n");
+    let _ = write_all(stderr, what);
+    let _ = write_all(stderr, b": ");
+    let _ = write_all(stderr, &text[..len]);
+    let _ = write_all(stderr, b"\n");
 }
 
 // Puts the error's words into the text, without the system's number for it, and answers how many bytes they have.
