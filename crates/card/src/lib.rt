@@ -1,3 +1,5 @@
+#![tactic(auto)]
+
 // The calls command, delivery and power reset.
 ghost use Rattle.std.specs.Prelude.{◌≡◌};
 ghost use Rattle.rules.specs.Numbers.{returned};

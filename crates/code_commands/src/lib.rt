@@ -1,3 +1,5 @@
+#![tactic(auto)]
+
 // VERIFY, CHANGE REFERENCE DATA and RESET RETRY COUNTER, as functions of the codes: the codes afterwards and a status word. And the
 // unblocking counts after RESET RETRY COUNTER.
 ghost use Rattle.std.specs.Prelude.{◌≡◌, ◌+◌, ◌-◌, take, drop};

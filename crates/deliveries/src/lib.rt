@@ -1,3 +1,5 @@
+#![tactic(auto)]
+
 // The delivery of a job's result, as a function of values: the next session and the answer.
 ghost use Rattle.std.specs.Prelude.{◌≡◌};
 ghost use Rattle.rules.specs.Delivery.{deliver};

@@ -1,3 +1,5 @@
+#![tactic(auto)]
+
 // MANAGE SECURITY ENVIRONMENT, as functions of values: the next session and the answer.
 ghost use Rattle.std.specs.Prelude.{◌≡◌};
 ghost use Rattle.rules.specs.KeyCommands.{set_environment, kind_chosen, choosing, names_key, choose_key};

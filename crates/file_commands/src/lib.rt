@@ -1,3 +1,5 @@
+#![tactic(auto)]
+
 // SELECT, READ RECORD, READ BINARY and GET RESPONSE, as functions of values: the next session and the answer.
 ghost use Rattle.std.specs.Prelude.{◌≡◌, ◌≤◌, ◌-◌, take};
 ghost use Rattle.octets.specs.Octets.{byte_at, word};

@@ -1,3 +1,5 @@
+#![tactic(auto)]
+
 // The call load: a card image is read byte by byte, each byte judged as it is read. The first fault in reading order stops it.
 ghost use Rattle.std.specs.Prelude.{◌≡◌, true, ℕ, ◌<◌, take};
 ghost use Rattle.rules.specs.declared.Card.{Card};

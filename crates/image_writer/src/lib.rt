@@ -1,3 +1,5 @@
+#![tactic(auto)]
+
 // The call write: a card's image, section by section as load reads it. Each private function answers the place behind what it wrote.
 ghost use Rattle.std.specs.Prelude.{◌≡◌, [], ◌∷◌, ◌≤◌, length, take};
 ghost use Rattle.octets.specs.Octets.{Bytes};

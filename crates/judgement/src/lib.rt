@@ -1,3 +1,5 @@
+#![tactic(auto)]
+
 // The order of judgement for a command whose length form is right: steps 2 to 7.
 ghost use Rattle.std.specs.Prelude.{◌≡◌, take};
 ghost use Rattle.rules.specs.Numbers.{naming};

@@ -1,3 +1,5 @@
+#![tactic(auto)]
+
 // INTERNAL AUTHENTICATE, SIGN and DECIPHER, as functions of values: the next session and the answer, and for SIGN the next
 // codes.
 ghost use Rattle.std.specs.Prelude.{◌≡◌, ◌++◌, ◌≤◌, length, take, drop};

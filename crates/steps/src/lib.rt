@@ -1,3 +1,5 @@
+#![tactic(auto)]
+
 // What a command leaves behind: the next session, or the next codes, unblocking counts and session, and the answer.
 ghost use Rattle.std.specs.Prelude.{◌≡◌, length, take};
 ghost use Rattle.rules.specs.Numbers.{kind_number};
