@@ -73,11 +73,8 @@ fn put_record(text: &mut [u8], at: usize, record: Record) -> usize {
 
 fn put_records(text: &mut [u8], at: usize, personal: [Record; 16]) -> usize {
     let mut end = at;
-    let mut i = 0;
-    while i < 16 {
-        let record = personal[i];
+    for record in personal {
         end = put_record(text, end, record);
-        i += 1;
     }
     end
 }
