@@ -1,3 +1,5 @@
+#![tactic(auto)]
+
 // Upper-case hex of whole bytes. Every function takes every input.
 ghost use Rattle.std.specs.Prelude.{◌≡◌, ◌+◌, ◌*◌, ◌%◌, ◌<◌, min, length};
 ghost use Rattle.octets.specs.Octets.{byte_at, pasted};

@@ -1,3 +1,5 @@
+#![tactic(auto)]
+
 // A line of output, written. Every public function takes every input.
 ghost use Rattle.std.specs.Prelude.{◌≡◌, [], ◌∷◌, ◌++◌, take};
 ghost use Rattle.hexadecimal.specs.Hex.{hex_of};

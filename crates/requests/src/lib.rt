@@ -1,3 +1,5 @@
+#![tactic(auto)]
+
 // What a line of the two line programs asks for. Every function takes every input.
 ghost use Rattle.std.specs.Prelude.{◌≡◌, ◌-◌, ◌≤◌, min, take};
 ghost use Rattle.octets.specs.Octets.{Bytes};

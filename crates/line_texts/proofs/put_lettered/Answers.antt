@@ -1,0 +1,8 @@
+use mathlib.Core.Path.{ap}
+use Rattle.hexadecimal.specs.Hex.{hex_of}
+use Rattle.writing.proofs.Puts.{put_then, put_same}
+use Rattle.line_texts.proofs.Texts.{put_hex}
+use Rattle.line_texts.proofs.put_lettered.Goals as goal
+
+pub returns : goal.returns
+returns c = put_then c.put-start.ensures (put_same (ap hex_of c.part.ensures) (put_hex c.hex_at.ensures))
