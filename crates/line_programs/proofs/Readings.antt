@@ -1,14 +1,8 @@
 -- Laws of readings that follow one another.
-use mathlib.Core.Path.{◌≡◌, refl, sym, ap, ◌∙◌}
-use mathlib.Core.Bool.{true, false}
-use mathlib.Core.List.{[], ◌∷◌, ◌++◌}
-use Prim.Native.Nat.{ℕ, suc, ◌≤◌}
-use native.Mathlib.Omega.{arith}
-use lib.Dec.{eqb}
-use lib.IntN.{ℤ, pos, negsuc}
-use lib.ListN.{length, take, length-take}
-use lib.Seq.{take_all, take-append-le}
-use Rattle.libc.specs.Io.{Moved}
+use Rattle.std.proofs.Common.{◌≡◌, ℕ, suc, ◌≤◌, List, [], ◌∷◌, ◌++◌, Option, Bool, true, false, ℤ, pos, negsuc, refl, sym, ap, ◌∙◌, eqb, length, take, length-take, arith}
+use Rattle.std.proofs.lemmas.List.{take_all, take-append-le}
+use Rattle.std.specs.Io.KnownBytes.{Consumes}
+use Rattle.std.proofs.KnownBytes.{Consumes-nil, Consumes-trans}
 use Rattle.octets.specs.Octets.{Bytes, blank, filled}
 use Rattle.octets.proofs.Tests.{by_test}
 use Rattle.requests.specs.declared.Dialect.{Dialect}
@@ -19,8 +13,8 @@ use Rattle.transcripts.specs.Transcript.{Program, Run, kept_line, run, start, fi
 use Rattle.transcripts.specs.Consoles.{program_of, console_for, Holds, Reads}
 use Rattle.transcripts.proofs.Runs.{at_feed, at_other, at_end_lem, run_append, next_line, one_more}
 use Rattle.streams.specs.declared.Reading.{Reading}
+use Rattle.streams.specs.Streams.{IsReading, Moved}
 use Rattle.line_programs.specs.declared.Stopped.{Stopped}
-use Rattle.streams.specs.Streams.{IsReading}
 use Rattle.line_programs.specs.Programs.{SomeRead, Ran}
 
 -- A string at the front of its room is read back.
@@ -63,17 +57,20 @@ module _ (d : Dialect) where
     first_short : Short first
     first_short = omega (arith, length-take (suc (longest d)) (take c₀.line l₀))
 
-    pub nothing_read : Holds first l₀ a₀ s₀ c₀ → SomeRead d first l₀ a₀ s₀ (record { console = c₀; last = byte })
-    nothing_read x = record { input = []; held = rw (at_end_lem d (kept_line d) first) x; last = refl }
+    pub nothing_read : (left : Option Bytes) → Holds first l₀ a₀ s₀ c₀ → SomeRead d first l₀ a₀ s₀ left left (record { console = c₀; last = byte })
+    nothing_read left x =
+        record { input = []; read = Consumes-nil left; held = rw (at_end_lem d (kept_line d) first) x; last = refl }
 
-    pub more_read : {l a s l' a' s' before after : Bytes} {c : Console} {r : Progress} {last : Reading} (b : Bytes) → IsReading last
-        → SomeRead d first l a s (record { console = c; last = byte }) → Reads (run d (program_of d c l a s) b) before l' a' s' after r
-        → SomeRead d first l' a' s' (record { console = r.console; last = last })
-    more_read b e x y =
+    pub more_read : {l a s l' a' s' before after : Bytes} {left mid left' : Option Bytes} {c : Console} {r : Progress} {last : Reading} (b : Bytes) → IsReading last
+        → SomeRead d first l a s left mid (record { console = c; last = byte }) → Consumes mid left' b
+        → Reads (run d (program_of d c l a s) b) before l' a' s' after r
+        → SomeRead d first l' a' s' left left' (record { console = r.console; last = last })
+    more_read b e x z y =
         let q : Program = (run d first x.input).program in
         let back = read_back q (run_short first x.input first_short) x.held in
         record {
           input = x.input ++ b;
+          read = Consumes-trans _ _ _ x.input b x.read z;
           held = rw (run_append d (kept_line d) first x.input b, ← back) y.held;
           last = e;
         }
@@ -86,16 +83,16 @@ module _ (d : Dialect) where
     pub begun_held : Holds (program_of d c₀ l₀ a₀ s₀) l₀ a₀ s₀ c₀
     begun_held = rw from_start begun
 
-    module _ {l a s : Bytes} {r : Stopped} (x : SomeRead d (program_of d c₀ l₀ a₀ s₀) l a s r) where
+    module _ {l a s : Bytes} {left left' : Option Bytes} {r : Stopped} (x : SomeRead d (program_of d c₀ l₀ a₀ s₀) l a s left left' r) where
       reached : Holds (run d (start d authentication signature) x.input).program l a s r.console
       reached = rw (← from_start) x.held
 
-      pub stopped_early : r.last.ended ≡ false → Ran d authentication signature r
-      stopped_early e = record { input = x.input; last = x.last; console = rw e reached.console }
+      pub stopped_early : r.last.ended ≡ false → Ran d authentication signature left left' r
+      stopped_early e = record { input = x.input; read = x.read; last = x.last; console = rw e reached.console }
 
       pub stopped_at_end : r.last.ended ≡ true → {before l' a' s' after : Bytes} {q : Progress}
           → Reads (finished d (program_of d r.console l a s)) before l' a' s' after q
-          → Ran d authentication signature (record { console = q.console; last = r.last })
+          → Ran d authentication signature left left' (record { console = q.console; last = r.last })
       stopped_at_end e y =
           let back = read_back (run d (start d authentication signature) x.input).program (run_short (start d authentication signature) x.input (omega arith)) reached in
-          record { input = x.input; last = x.last; console = rw (e, ← back) y.held.console }
+          record { input = x.input; read = x.read; last = x.last; console = rw (e, ← back) y.held.console }
