@@ -1,3 +1,5 @@
+#![tactic(auto)]
+
 // A line of the two line programs: what an input line asks for is done, and answered by a line of output. Every public function takes
 // every input.
 ghost use Rattle.std.specs.Prelude.{◌≡◌, [], min, length, take};

@@ -1,3 +1,5 @@
+#![tactic(auto)]
+
 // What an image that is loaded and written again gives: the same image, or its load number.
 ghost use Rattle.std.specs.Prelude.{◌≡◌, true};
 ghost use Rattle.writing.specs.Puts.{Put};

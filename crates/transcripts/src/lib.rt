@@ -1,3 +1,5 @@
+#![tactic(auto)]
+
 // The input of the line programs, answered line by line.
 ghost use Rattle.std.specs.Prelude.{◌≡◌, ◌++◌, ◌≤◌, suc, length, take};
 ghost use Rattle.octets.specs.Octets.{filled};
