@@ -1,15 +1,14 @@
 -- Document 02, wish 6: a limit on unblocking.
 use Rattle.std.specs.Prelude.{ℕ, ◌≡◌, Bool, true, false, List, [], ◌∷◌, ◌++◌, map, length, take, replicate}
-use Rattle.octets.specs.Octets.{Bytes}
 use Rattle.rules.specs.declared.Card.{Card}
-use Rattle.rules.specs.Codes.{PUK, PIN1, PIN2, storing, no_limit, lowered}
+use Rattle.rules.specs.Codes.{PUK, PIN1, PIN2, no_limit, lowered}
 use Rattle.rules.specs.Session.{with_held}
 use Rattle.rules.specs.Counting.{Call, Command, PowerReset, next, after}
 use Rattle.rules.specs.Sample.{sample_card, puk, pin1, pin2}
 use Rattle.rules.specs.Cases.{Seen, with_counts, code, is_reset, refuses, asking, verify_of, wrong_pin1, sign_sha1, sign_job, sw}
-use Rattle.rules.specs.Cases.{send, with_body, deliver_to, choose_key_of, decipher_part}
-use Rattle.cases.specs.SecondCard.{second_card, second_puk, second_pin1, second_pin2}
-use Rattle.cases.specs.Turns.{Turn, Run, ◌⇒◌, Shown, tries, marks, bare, sending, fives, nines, with_codes, sample_tries}
+use Rattle.rules.specs.Cases.{send, deliver_to, choose_key_of, decipher_part}
+use Rattle.cases.specs.SecondCard.{second_puk, second_pin1, second_pin2}
+use Rattle.cases.specs.Turns.{Turn, Run, ◌⇒◌, Shown, tries, marks, bare, sending, fives, nines, sample_tries}
 use Rattle.cases.specs.Turns.{sample_marks, second_tries, waiting, with_session, at, in_environment, chained, with_le, select_root, select_directory}
 use Rattle.cases.specs.Turns.{counted, select_file, record_read, get_response, environment}
 use Rattle.cases.specs.UnblockingCases.{unblock, unblock_with, blocked}

@@ -1,5 +1,5 @@
 -- Document 01, "Padding and delivery": RSA padding of RFC 8017 (EMSA-PKCS1-v1_5 and RSAES-PKCS1-v1_5), for RSA 2048.
-use Rattle.std.specs.Prelude.{ℕ, zero, suc, ◌+◌, ◌-◌, Bool, cond, ◌&&◌, ◌||◌, [], ◌∷◌, ◌++◌, length, drop, replicate, eqb, leb, ltb}
+use Rattle.std.specs.Prelude.{ℕ, suc, ◌+◌, ◌-◌, Bool, cond, ◌&&◌, ◌||◌, [], ◌∷◌, ◌++◌, length, drop, replicate, eqb, leb, ltb}
 use Rattle.octets.specs.Octets.{Bytes, byte_at}
 
 -- A padded block: 00 01, 253 − n bytes FF, 00, the n data bytes.

@@ -1,6 +1,7 @@
 #![tactic(auto)]
 
-// RSA block padding of RFC 8017, for 256-byte blocks. The key host is written in C and calls the two exported functions.
+// RSA block padding of RFC 8017, for 256-byte blocks. The key host is written in C and calls the two public functions, which pkcs1_c
+// exports.
 ghost use Rattle.std.specs.Prelude.{◌≡◌, ◌+◌, ◌≤◌, length, drop, ltb};
 ghost use Rattle.octets.specs.Octets.{pasted};
 ghost use Rattle.pkcs1.specs.Pkcs1.{pad, before_zero, strip};
@@ -31,8 +32,7 @@ fn move_at(dst: &mut [u8], at: usize, src: &[u8])
 
 // Pads the message into the first 256 bytes of the buffer and returns 256; returns 0, with nothing written, where the message is
 // longer than 245 bytes or the buffer is shorter than a block.
-#[unsafe(no_mangle)]
-pub extern "C" fn shoalpennant_pad(message: &[u8], buffer: &mut [u8]) -> usize
+pub fn shoalpennant_pad(message: &[u8], buffer: &mut [u8]) -> usize
     ensures { (result, buffer.new) ≡ pad message.now buffer.old }
 {
     if MOST < message.len() {
@@ -93,8 +93,7 @@ fn before_zero(s: &[u8]) -> usize
 }
 
 // The index at which the message of a deciphered block starts, 11 to 256; 0 where the block is not one that stripping takes.
-#[unsafe(no_mangle)]
-pub extern "C" fn shoalpennant_strip(block: &[u8]) -> usize
+pub fn shoalpennant_strip(block: &[u8]) -> usize
     ensures { result ≡ strip block.now }
 {
     if block.len() != BLOCK {

@@ -1,6 +1,5 @@
 -- What moves a PIN's unblocking count: the sheet's column holds of every call on every card. And the sheet, whole.
 use mathlib.Core.Path.{◌≡◌, refl, ap, ◌∙◌}
-use mathlib.Core.Logic.{◌≢◌}
 use mathlib.Core.Bool.{true, false, not, cond, ◌&&◌, ◌||◌, and-false, and-true}
 use mathlib.Core.List.{List, []}
 use Prim.Native.Nat.{ℕ, ◌-◌, ◌≤◌, ◌<◌}

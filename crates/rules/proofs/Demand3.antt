@@ -5,7 +5,6 @@ use Rattle.rules.specs.declared.Session.{Session}
 use Rattle.rules.specs.Codes.{no_limit, count_of}
 use Rattle.rules.specs.Session.{new_session}
 use Rattle.rules.specs.Image.{load}
-use Rattle.rules.specs.Counting.{of_bytes}
 use Rattle.rules.specs.Demands.{Demand3}
 use Rattle.rules.proofs.Parts.{good_counts_lem, good_count}
 use Rattle.rules.proofs.SequenceBound.{wrong_bound, signature_bound, unblocking_bound}

@@ -33,7 +33,7 @@ use Rattle.rules.specs.FileCommands.{select, read_record, read_binary, get_respo
 use Rattle.rules.specs.KeyCommands.{set_environment, choose_key, internal_authenticate, sign, decipher}
 use Rattle.rules.specs.CodeCommands.{sw_not_allowed, sw_has_tries, verdict, judged, queried, verify, new_value, change}
 use Rattle.rules.specs.CodeCommands.{unblocked, unblock_by_verified_puk, unblock_by_presented_puk, reset_retry}
-use Rattle.rules.specs.Judgement.{commands, instruction, parameters, has_data, lengths, own_rules, refusal}
+use Rattle.rules.specs.Judgement.{instruction, parameters, has_data, lengths, own_rules, refusal}
 use Rattle.rules.specs.Judgement.{judge_header, judge_form}
 use Rattle.rules.specs.Judgement.{judge}
 use Rattle.rules.specs.Delivery.{deliver}

@@ -1,4 +1,3 @@
-use Prim.Native.Nat.{◌-◌}
 use native.Mathlib.Omega.{arith}
 use Rattle.octets.specs.Octets.{Bytes}
 use Rattle.pkcs1.proofs.Steps.{before_most, passed, zero_more, zero_stop, zero_end}
