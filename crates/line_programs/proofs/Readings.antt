@@ -1,11 +1,11 @@
 -- Laws of readings that follow one another.
-use Rattle.std.proofs.Common.{◌≡◌, ℕ, zero, suc, ◌+◌, ◌*◌, ◌≤◌, ◌<◌, ◌⊎◌, inl, inr, List, [], ◌∷◌, ◌++◌, Option, Bool, true, false, ◌&&◌, ◌||◌, IsTrue, ℤ, pos, negsuc, min, refl, sym, ap, ◌∙◌, eqb, ltb, length, take, length-append, length-take, append-nil, arith}
+use Rattle.std.proofs.Common.{◌≡◌, ℕ, zero, suc, ◌+◌, ◌*◌, ◌≤◌, ◌<◌, ◌⊎◌, inl, inr, [], ◌∷◌, ◌++◌, Option, Bool, true, false, ◌&&◌, ◌||◌, IsTrue, ℤ, pos, negsuc, refl, sym, ap, ◌∙◌, eqb, ltb, length, take, length-append, length-take, arith}
 use Rattle.std.proofs.Math.Nat.{mul-le-mul_left}
 use Rattle.std.proofs.Math.Seq.{take-append-add, take-nil}
 use Rattle.std.proofs.lemmas.List.{take_all, take-append-le}
 use Rattle.std.specs.Io.KnownBytes.{Appends, Consumes, IsAtEnd}
 use Rattle.std.proofs.KnownBytes.{Appends-nil, Appends-trans, Consumes-nil, Consumes-trans}
-use Rattle.octets.specs.Octets.{Bytes, blank, filled, byte_at, all_bytes}
+use Rattle.octets.specs.Octets.{Bytes, filled, byte_at, all_bytes}
 use Rattle.octets.proofs.Buffers.{all_bytes_lem}
 use Rattle.octets.proofs.Pasting.{take_pasted}
 use Rattle.octets.proofs.Tests.{by_test, and_left, and_right}
@@ -15,8 +15,8 @@ use Rattle.requests.specs.declared.Dialect.TheVariants.{Transcript, StandIn}
 use Rattle.requests.specs.Requests.{line_feed, longest}
 use Rattle.transcripts.specs.declared.Console.{Console}
 use Rattle.transcripts.specs.declared.Progress.{Progress}
-use Rattle.transcripts.specs.Transcript.{Program, Run, kept_line, run, start, finished, most_text}
-use Rattle.transcripts.specs.Consoles.{program_of, console_for, Holds, Reads}
+use Rattle.transcripts.specs.Transcript.{Program, kept_line, run, start, finished, most_text}
+use Rattle.transcripts.specs.Consoles.{program_of, Holds, Reads}
 use Rattle.transcripts.proofs.Keeping.{kept_enough}
 use Rattle.transcripts.proofs.Output.{short_output}
 use Rattle.transcripts.proofs.Runs.{at_feed, at_other, at_end_lem, run_append, next_line, one_more}
