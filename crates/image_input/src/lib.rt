@@ -26,7 +26,7 @@ fn read_more<R: Read, E: Write>(
 ) -> ImageRead
     requires { have ≤ length image.old }
     ensures len_value { (result.len ≡ have + result.last.count) × (result.len ≤ length image.old) × IsReading result.last }
-    ensures image_unchanged { take have image.new ≡ take have image.old }
+    ensures front_unchanged { take have image.new ≡ take have image.old }
     ensures bytes { Consumes (R.remaining stdin.old) (R.remaining stdin.new) (take result.last.count (drop have image.new)) }
     ensures end { IsTrue result.last.ended → have < length image.old → IsAtEnd (R.remaining stdin.new) }
 {

@@ -13,9 +13,9 @@ read_behind a b c old new have count n before kept sum more =
 pub returns-then-reading-have-clause-bytes : goal.returns-then-reading-have-clause-bytes
 returns-then-reading-have-clause-bytes g c =
     let read = c.read_more-read in
-    read_behind _ _ _ c.loop-turn.image read.new.image c.loop-turn.have read.result.last.count read.result.len c.loop-turn.invariant.1 read.ensures.image_unchanged read.ensures.len_value.0 read.ensures.bytes
+    read_behind _ _ _ c.loop-turn.image read.new.image c.loop-turn.have read.result.last.count read.result.len c.loop-turn.invariant.1 read.ensures.front_unchanged read.ensures.len_value.0 read.ensures.bytes
 
 pub loop-turn-preserved : goal.loop-turn-preserved
 loop-turn-preserved g c =
     let read = c.read_more-read in
-    (omega arith, read_behind _ _ _ c.loop-turn.image read.new.image c.loop-turn.have read.result.last.count read.result.len c.loop-turn.invariant.1 read.ensures.image_unchanged read.ensures.len_value.0 read.ensures.bytes)
+    (omega arith, read_behind _ _ _ c.loop-turn.image read.new.image c.loop-turn.have read.result.last.count read.result.len c.loop-turn.invariant.1 read.ensures.front_unchanged read.ensures.len_value.0 read.ensures.bytes)
