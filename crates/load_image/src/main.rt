@@ -1,6 +1,7 @@
+#![tactic(auto)]
+
 // Reads a card image and prints what load makes of it: the fault's number, or the card, a line for each part. The functions that put a
 // part into the text answer where it ends.
-use libc::STDOUT_FILENO;
 use rules::{Card, Code, Fault, LoadResult, Record};
 
 // A name, and bytes in hex.
@@ -10,10 +11,15 @@ fn put_bytes(text: &mut [u8], at: usize, name: &[u8], s: &[u8]) -> usize {
     writing::put(text, end, b"\n")
 }
 
+// A number without leading zeros.
 fn put_decimal(text: &mut [u8], at: usize, n: u8) -> usize {
-    let mut digits = [0u8; 20];
-    let count = io::decimal(numbers::wide(n) as u64, &mut digits);
-    writing::put(text, at, &digits[..count])
+    let digits = [b'0' + n / 100, b'0' + n / 10 % 10, b'0' + n % 10];
+    let zeros = match n {
+        0..=9 => 2,
+        10..=99 => 1,
+        _ => 0,
+    };
+    writing::put(text, at, octets::part(&digits, zeros, 3))
 }
 
 // A number and a line end.
@@ -67,11 +73,8 @@ fn put_record(text: &mut [u8], at: usize, record: Record) -> usize {
 
 fn put_records(text: &mut [u8], at: usize, personal: [Record; 16]) -> usize {
     let mut end = at;
-    let mut i = 0;
-    while i < 16 {
-        let record = personal[i];
+    for record in personal {
         end = put_record(text, end, record);
-        i += 1;
     }
     end
 }
@@ -117,21 +120,24 @@ fn put_loaded(text: &mut [u8], image: &[u8]) -> usize {
     }
 }
 
-fn main() {
+fn main(rt: HostRuntime) {
+    let mut stderr = rt.stderr();
     if !streams::without_arguments(
-        os::arg_count(),
+        &mut stderr,
+        streams::argument_count(&rt),
         b"usage: load_image (it takes no arguments; an image is read from standard input)\n",
     ) {
         return;
     }
     // What stands past 1,119 bytes changes nothing (`FirstBytes`, field `enough`).
     let mut image = [0u8; 1119];
-    let read = image_input::read_image(&mut image);
+    let read = image_input::read_image(&mut rt.stdin(), &mut stderr, &mut image);
     let last = read.last;
     if last.ended | (read.len == 1119) {
         // The longest text has 2,333 characters.
         let mut text = [0u8; 4096];
         let end = put_loaded(&mut text, octets::part(&image, 0, read.len));
-        streams::written_or_said(io::write_all(STDOUT_FILENO, octets::part(&text, 0, end)));
+        let outcome = streams::write_all(&mut rt.stdout(), octets::part(&text, 0, end));
+        streams::written_or_said(&mut stderr, outcome);
     }
 }

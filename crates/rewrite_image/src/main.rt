@@ -1,20 +1,23 @@
-// Reads a card image and writes it again, or its load number and a line end.
-use libc::STDOUT_FILENO;
+#![tactic(auto)]
 
-fn main() {
+// Reads a card image and writes it again, or its load number and a line end.
+fn main(rt: HostRuntime) {
+    let mut stderr = rt.stderr();
     if !streams::without_arguments(
-        os::arg_count(),
+        &mut stderr,
+        streams::argument_count(&rt),
         b"usage: rewrite_image (it takes no arguments; an image is read from standard input)\n",
     ) {
         return;
     }
     // What stands past 1,119 bytes changes nothing (`Rewrites`, field `enough`).
     let mut image = [0u8; 1119];
-    let read = image_input::read_image(&mut image);
+    let read = image_input::read_image(&mut rt.stdin(), &mut stderr, &mut image);
     let last = read.last;
     if last.ended | (read.len == 1119) {
         let mut text = [0u8; 1119];
         let end = rewriting::rewrite(octets::part(&image, 0, read.len), &mut text);
-        streams::written_or_said(io::write_all(STDOUT_FILENO, octets::part(&text, 0, end)));
+        let outcome = streams::write_all(&mut rt.stdout(), octets::part(&text, 0, end));
+        streams::written_or_said(&mut stderr, outcome);
     }
 }

@@ -1,14 +1,21 @@
+#![tactic(auto)]
+
 // The stand-in: the transcript program's lines, and lines for an image, the certificates and the answer buffer.
 use line_programs::certificates;
 use requests::Dialect;
 
-fn main() {
+fn main(rt: HostRuntime) {
+    let mut stderr = rt.stderr();
     if streams::without_arguments(
-        os::arg_count(),
+        &mut stderr,
+        streams::argument_count(&rt),
         b"usage: stand_in (it takes no arguments; lines are read from standard input)\n",
     ) {
         line_programs::run(
             Dialect::StandIn,
+            &mut rt.stdin(),
+            &mut rt.stdout(),
+            &mut stderr,
             &certificates::AUTHENTICATION,
             &certificates::SIGNATURE,
         );

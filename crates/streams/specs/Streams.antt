@@ -1,6 +1,20 @@
 -- What follows from what the system answered to a reading.
-use Rattle.std.specs.Prelude.{ℕ, zero, suc, ◌≡◌, Bool, true, false, ◌&&◌, ℤ, pos, negsuc}
+use Rattle.std.specs.Prelude.{ℕ, zero, suc, ◌≡◌, ◌≤◌, List, Option, length, take, Bool, true, false, ◌&&◌, ℤ, pos, negsuc}
+use Rattle.std.specs.Io.KnownBytes.{Appends}
 use Rattle.streams.specs.declared.Reading.{Reading}
+
+-- What the system may answer where there is room for n bytes: -1, or how many bytes it brought, no more than there is room for.
+abbrev pub Moved : ℕ → ℤ → Type 0
+Moved n (pos k) = k ≤ n
+Moved n (negsuc k) = k ≡ 0
+
+-- The first n of these bytes can be taken, and are n bytes.
+abbrev pub IsPrefixLen : ℕ → List ℕ → Type 0
+IsPrefixLen n xs = (n ≤ length xs) × (n ≡ length (take n xs))
+
+-- Known bytes grow by the front of the text, which may be all of it.
+abbrev pub AppendsFront : Option (List ℕ) → Option (List ℕ) → List ℕ → Type 0
+AppendsFront old new text = (n : ℕ) × (n ≤ length text) × Appends old new (take n text)
 
 -- It failed.
 abbrev pub failed : ℤ → Bool

@@ -11,8 +11,7 @@ use Rattle.octets.proofs.Tests.{split, by_test, and_left, and_right}
 use Rattle.hexadecimal.specs.Hex.{hex_of}
 use Rattle.hexadecimal.proofs.Laws.{length_hex_of}
 use Rattle.rules.specs.declared.Card.{Card}
-use Rattle.rules.specs.Numbers.{Returned, edge, responded, handed_out, was_reset}
-use Rattle.rules.specs.Edge.{command, delivery, power_reset}
+use Rattle.rules.specs.Numbers.{Returned, responded, handed_out}
 use Rattle.rules.specs.Image.{load}
 use Rattle.rules.specs.Writer.{image_of, write}
 use Rattle.rules.specs.Counting.{Call, Command, Delivery, PowerReset, step}
@@ -26,7 +25,7 @@ use Rattle.requests.specs.Requests.{Request, line_feed, most_buffer, stands_in}
 use Rattle.lines.specs.Lines.{Setup, answer_to, setup_after, line_answer, answer_buffer, answer_line}
 use Rattle.line_texts.specs.Texts.{reply_text, load_text, saved_text}
 use Rattle.requests.proofs.Requests.{Cases, every_request}
-use Rattle.transcripts.specs.Transcript.{Program, run, kept_line, most_text, ShortOutput}
+use Rattle.transcripts.specs.Transcript.{run, kept_line, most_text, ShortOutput}
 use Rattle.transcripts.proofs.Runs.{at_end_lem, at_feed, at_other, next_line, one_more}
 
 -- What a call can return is short.

@@ -2,22 +2,21 @@
 use mathlib.Core.Path.{◌≡◌, refl, sym, ap, ◌∙◌}
 use mathlib.Core.Bool.{cond}
 use mathlib.Core.List.{[], ◌∷◌, ◌++◌}
-use Prim.Native.Nat.{ℕ, zero, suc, ◌+◌, ◌≤◌, ◌<◌, min}
+use Prim.Native.Nat.{ℕ, suc, ◌+◌, ◌≤◌, ◌<◌, min}
 use native.Mathlib.Omega.{arith}
 use lib.Dec.{eqb}
 use lib.ListN.{length, take, drop, length-take}
 use lib.Seq.{take-nil, take_all, take-add}
 use mathlib.Core.Logic.{◌≢◌}
-use borrow.Author.Tests.{eq-eqb, ne_eqb}
+use borrow.Author.Tests.{ne_eqb}
 use Rattle.octets.specs.Octets.{Bytes, filled}
 use Rattle.octets.proofs.Strings.{take_twice}
-use Rattle.octets.proofs.Tests.{either}
 use Rattle.rules.specs.declared.Card.{Card}
 use Rattle.lines.specs.declared.Answered.{Answered}
 use Rattle.requests.specs.declared.Dialect.{Dialect}
 use Rattle.requests.specs.Requests.{line_feed, longest}
 use Rattle.lines.specs.Lines.{answer_line}
-use Rattle.lines.specs.Terminals.{setup_of, Answers}
+use Rattle.lines.specs.Terminals.{Answers}
 use Rattle.writing.specs.Puts.{Put}
 use Rattle.writing.proofs.Puts.{put_then}
 use Rattle.octets.proofs.Pasting.{pasted_zero}

@@ -1,6 +1,6 @@
 use native.Mathlib.Numerals.{add-one}
 use Rattle.rules.specs.State.{good_records}
-use Prim.Native.Nat.{ℕ, ◌-◌}
+use Prim.Native.Nat.{ℕ}
 use mathlib.Core.Path.{refl, ap, ◌∙◌}
 use native.Mathlib.Omega.{arith}
 use Rattle.good_state.proofs.good_records.Goals as goal

@@ -1,5 +1,4 @@
 use mathlib.Core.Path.{refl, ◌∙◌}
-use Prim.Native.Nat.{◌-◌}
 use native.Mathlib.Omega.{arith}
 use Rattle.image.proofs.Keys.{marks_with, marks_kept, no_key_yet, one_key_more, no_key_more}
 use Rattle.image.proofs.read_keys.Goals as goal
