@@ -118,43 +118,43 @@ module _ (d : Dialect) where
   nothing_given : (p : Program) (b : Bytes) → b ≡ [] → (run d p b).text ≡ []
   nothing_given p b e = rw (e, at_end_lem d (kept_line d) p) refl
 
-  module _ (p : Program) (short : Short p) {left had : Option Bytes} where
-    pub nothing_read : {l a s : Bytes} {c : Console} → Holds p l a s c → SomeRead d p l a s left left had had (record { console = c; last = byte; sent = true })
+  module _ (p : Program) (short : Short p) {left had : Option Bytes} {room : ℕ} where
+    pub nothing_read : {l a s : Bytes} {c : Console} → Holds p l a s c → SomeRead d p l a s left left had had room (record { console = c; last = byte; sent = true })
     nothing_read x = record {
       input = [];
       read = Consumes-nil left;
       at_end = λ e. cc;
       held = rw (at_end_lem d (kept_line d) p) x;
       last = refl;
-      written = (0, omega arith, Appends-nil had);
-      whole = λ e. rw (at_end_lem d (kept_line d) p) (Appends-nil had);
+      written = λ big. (0, omega arith, Appends-nil had);
+      whole = λ big e. rw (at_end_lem d (kept_line d) p) (Appends-nil had);
     }
 
     pub more_read : {l a s l' a' s' before after : Bytes} {mid left' mid' has : Option Bytes} {c : Console} {r : Progress} {last : Reading} {sent : Bool} (b : Bytes)
-        → SomeRead d p l a s left mid had mid' (record { console = c; last = byte; sent = true }) → IsReading last → Consumes mid left' b
+        → SomeRead d p l a s left mid had mid' room (record { console = c; last = byte; sent = true }) → IsReading last → Consumes mid left' b
         → (IsTrue last.ended → IsAtEnd left') → (IsTrue last.ended → b ≡ []) → Reads (run d (program_of d c l a s) b) before l' a' s' after r
-        → AppendsFront mid' has (run d (program_of d c l a s) b).text → (IsTrue sent → Appends mid' has (run d (program_of d c l a s) b).text)
-        → SomeRead d p l' a' s' left left' had has (record { console = r.console; last = last; sent = sent })
+        → (524288 ≤ room → AppendsFront mid' has (run d (program_of d c l a s) b).text)
+        → (524288 ≤ room → IsTrue sent → Appends mid' has (run d (program_of d c l a s) b).text)
+        → SomeRead d p l' a' s' left left' had has room (record { console = r.console; last = last; sent = sent })
     more_read {l = l} {a = a} {s = s} {c = c} {last = last} {sent = sent} b x is_reading read at_end none y written whole =
         let q : Program = (run d p x.input).program in
         let back = read_back q (run_short p x.input short) x.held in
         let joined = run_append d (kept_line d) p x.input b in
-        let before = x.whole refl in
         record {
           input = x.input ++ b;
           read = Consumes-trans _ _ _ x.input b x.read read;
           at_end = at_end;
           held = rw (joined, ← back) y.held;
           last = is_reading;
-          written = rw (joined, ← back) (front_more _ _ _ _ _ before written);
-          whole = λ e.
+          written = λ big. rw (joined, ← back) (front_more _ _ _ _ _ (x.whole big refl) (written big));
+          whole = λ big e.
               elim (either sent last.ended e) [
-                | inl t ↦ rw (joined, ← back) (Appends-trans _ _ _ _ _ before (whole t))
-                | inr t ↦ rw (joined, ← back) (Appends-trans _ _ _ _ _ before (front_none _ _ _ (nothing_given (program_of d c l a s) b (none t)) written))
+                | inl t ↦ rw (joined, ← back) (Appends-trans _ _ _ _ _ (x.whole big refl) (whole big t))
+                | inr t ↦ rw (joined, ← back) (Appends-trans _ _ _ _ _ (x.whole big refl) (front_none _ _ _ (nothing_given (program_of d c l a s) b (none t)) (written big)))
               ];
         }
 
-    module _ {l a s : Bytes} {left' mid : Option Bytes} {r : Stopped} (x : SomeRead d p l a s left left' had mid r) where
+    module _ {l a s : Bytes} {left' mid : Option Bytes} {r : Stopped} (big : 524288 ≤ room) (x : SomeRead d p l a s left left' had mid room r) where
       pub stopped_early : r.last.ended ≡ false → RanFrom d p left left' had mid r
       stopped_early e = record {
         input = x.input;
@@ -162,8 +162,8 @@ module _ (d : Dialect) where
         at_end = x.at_end;
         last = x.last;
         console = rw e x.held.console;
-        written = rw e x.written;
-        whole = λ t. rw e (x.whole (or_left r.sent r.last.ended t));
+        written = rw e (x.written big);
+        whole = λ t. rw e (x.whole big (or_left r.sent r.last.ended t));
       }
 
       pub stopped_at_end : r.last.ended ≡ true → {before l' a' s' after : Bytes} {q : Progress} {has : Option Bytes} {sent : Bool}
@@ -172,7 +172,7 @@ module _ (d : Dialect) where
           → RanFrom d p left left' had has (record { console = q.console; last = r.last; sent = sent })
       stopped_at_end e y written whole =
           let back = read_back (run d p x.input).program (run_short p x.input short) x.held in
-          let before = x.whole (or_right r.sent r.last.ended e) in
+          let before = x.whole big (or_right r.sent r.last.ended e) in
           record {
             input = x.input;
             read = x.read;

@@ -1,7 +1,7 @@
 -- The program that a line program has come to, and what it has written. Which bytes the system brought no contract can say
 -- (docs/DECISIONS.md): there is some input from which the program follows. Where the reader knows its bytes, that input is what it lost of
 -- them, and where the writer knows its bytes, the output is what it gained.
-use Rattle.std.specs.Prelude.{◌≡◌, ◌++◌, Bool, IsTrue, Option, cond, ◌||◌}
+use Rattle.std.specs.Prelude.{ℕ, ◌≡◌, ◌≤◌, ◌++◌, Bool, IsTrue, Option, cond, ◌||◌}
 use Rattle.std.specs.Io.KnownBytes.{Appends, Consumes, IsAtEnd}
 use Rattle.octets.specs.Octets.{Bytes}
 use Rattle.requests.specs.declared.Dialect.{Dialect}
@@ -10,16 +10,16 @@ use Rattle.transcripts.specs.Consoles.{console_for, Holds}
 use Rattle.streams.specs.Streams.{AppendsFront, IsReading}
 use Rattle.line_programs.specs.declared.Stopped.{Stopped}
 
--- Some input was read from a program on, and the code holds the program after it. All of its output was written where nothing failed to be
--- written, and also where the input has ended.
-pub record SomeRead (d : Dialect) (p : Program) (l a s : Bytes) (left left' had has : Option Bytes) (r : Stopped) : Type 0 where
+-- Some input was read from a program on, and the code holds the program after it. Where there is room for the output of a turn, all of it
+-- was written if nothing failed to be written, and also if the input has ended.
+pub record SomeRead (d : Dialect) (p : Program) (l a s : Bytes) (left left' had has : Option Bytes) (room : ℕ) (r : Stopped) : Type 0 where
   pub input : Bytes
   pub read : Consumes left left' input
   pub at_end : IsTrue r.last.ended → IsAtEnd left'
   pub held : Holds (run d p input).program l a s r.console
   pub last : IsReading r.last
-  pub written : AppendsFront had has (run d p input).text
-  pub whole : IsTrue (r.sent || r.last.ended) → Appends had has (run d p input).text
+  pub written : 524288 ≤ room → AppendsFront had has (run d p input).text
+  pub whole : 524288 ≤ room → IsTrue (r.sent || r.last.ended) → Appends had has (run d p input).text
 
 -- Where the last reading met the end of the input, a line that it left open is read to its end.
 abbrev pub at_stop : Dialect → Bool → Program → Program

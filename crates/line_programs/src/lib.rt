@@ -73,14 +73,14 @@ fn read_some<R: Read, W: Write, E: Write>(
     line: &mut [u8; 4097],
     authentication: &mut [u8; 2048],
     signature: &mut [u8; 2048],
-    output: &mut [u8; 524288],
+    output: &mut [u8],
 ) -> Turn
     ensures reading { IsReading result.reading }
     ensures bytes { Consumes (R.remaining stdin.old) (R.remaining stdin.new) (take result.reading.count input.new) }
     ensures end { IsTrue result.reading.ended → IsAtEnd (R.remaining stdin.new) }
     ensures reads { Reads (run dialect (program_of dialect console line.old authentication.old signature.old) (take result.reading.count input.new)) output.old line.new authentication.new signature.new output.new result.progress }
-    ensures front { AppendsFront (W.contents stdout.old) (W.contents stdout.new) (run dialect (program_of dialect console line.old authentication.old signature.old) (take result.reading.count input.new)).text }
-    ensures all { IsTrue result.sent → Appends (W.contents stdout.old) (W.contents stdout.new) (run dialect (program_of dialect console line.old authentication.old signature.old) (take result.reading.count input.new)).text }
+    ensures front { 524288 ≤ length output.old → AppendsFront (W.contents stdout.old) (W.contents stdout.new) (run dialect (program_of dialect console line.old authentication.old signature.old) (take result.reading.count input.new)).text }
+    ensures all { 524288 ≤ length output.old → IsTrue result.sent → Appends (W.contents stdout.old) (W.contents stdout.new) (run dialect (program_of dialect console line.old authentication.old signature.old) (take result.reading.count input.new)).text }
     ensures more { IsTrue result.more → IsTrue result.sent }
 {
     let reading = read_within(stdin, stderr, input, at_once(dialect));
@@ -122,10 +122,10 @@ fn read_all<R: Read, W: Write, E: Write>(
     line: &mut [u8; 4097],
     authentication: &mut [u8; 2048],
     signature: &mut [u8; 2048],
-    output: &mut [u8; 524288],
+    output: &mut [u8],
 ) -> Stopped
     requires { Holds (program_of dialect console line.old authentication.old signature.old) line.old authentication.old signature.old console }
-    ensures { SomeRead dialect (program_of dialect console line.old authentication.old signature.old) line.new authentication.new signature.new (R.remaining stdin.old) (R.remaining stdin.new) (W.contents stdout.old) (W.contents stdout.new) result }
+    ensures { SomeRead dialect (program_of dialect console line.old authentication.old signature.old) line.new authentication.new signature.new (R.remaining stdin.old) (R.remaining stdin.new) (W.contents stdout.old) (W.contents stdout.new) (length output.old) result }
 {
     let mut next = console;
     for _turn in 0..u64::MAX {

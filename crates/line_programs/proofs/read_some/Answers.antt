@@ -13,9 +13,9 @@ returns-clause-front g c =
     let few : length input ≤ c.at_once.result =
     omega (arith, length-take reading.result.count reading.new.input, brought_within reading.result c.at_once.result reading.ensures.reading.0 reading.ensures.reading.1) in
     let put = rw c.part.ensures at c.read-progress.ensures.output in
-    let room : length a.output.now ≡ 524288 = omega arith in
     let fits = text_fits a.dialect a.console a.line.now a.authentication.now a.signature.now input c.at_once.result c.fits-authentication c.fits-signature few c.at_once.ensures.fits in
-    rw (shown text a.output.now c.read-progress.new.output c.read-progress.result.written put (omega (arith, fits, room))) at c.written-sent.ensures.front
+    λ big.
+    rw (shown text a.output.now c.read-progress.new.output c.read-progress.result.written put (omega (arith, fits, big))) at c.written-sent.ensures.front
 
 pub returns-clause-all : goal.returns-clause-all
 returns-clause-all g c =
@@ -26,7 +26,6 @@ returns-clause-all g c =
     let few : length input ≤ c.at_once.result =
     omega (arith, length-take reading.result.count reading.new.input, brought_within reading.result c.at_once.result reading.ensures.reading.0 reading.ensures.reading.1) in
     let put = rw c.part.ensures at c.read-progress.ensures.output in
-    let room : length a.output.now ≡ 524288 = omega arith in
     let fits = text_fits a.dialect a.console a.line.now a.authentication.now a.signature.now input c.at_once.result c.fits-authentication c.fits-signature few c.at_once.ensures.fits in
-    λ sent.
-    rw (shown text a.output.now c.read-progress.new.output c.read-progress.result.written put (omega (arith, fits, room))) at (c.written-sent.ensures.all sent)
+    λ big sent.
+    rw (shown text a.output.now c.read-progress.new.output c.read-progress.result.written put (omega (arith, fits, big))) at (c.written-sent.ensures.all sent)
