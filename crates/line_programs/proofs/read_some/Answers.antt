@@ -1,4 +1,4 @@
-use Rattle.std.proofs.Common.{◌≡◌, ◌≤◌, arith, length, length-take, take}
+use Rattle.std.proofs.Common.{◌≤◌, arith, length, length-take, take}
 use Rattle.transcripts.specs.Transcript.{run}
 use Rattle.transcripts.specs.Consoles.{program_of}
 use Rattle.line_programs.proofs.Readings.{brought_within, shown, text_fits}
