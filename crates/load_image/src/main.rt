@@ -122,11 +122,13 @@ fn put_loaded(text: &mut [u8], image: &[u8]) -> usize {
 
 fn main(rt: HostRuntime) {
     let mut stderr = rt.stderr();
-    if !streams::without_arguments(
+    if !streams::arguments_given(
+        &rt,
         &mut stderr,
-        streams::argument_count(&rt),
         b"usage: load_image (it takes no arguments; an image is read from standard input)\n",
-    ) {
+    )
+    .none
+    {
         return;
     }
     // What stands past 1,119 bytes changes nothing (`FirstBytes`, field `enough`).

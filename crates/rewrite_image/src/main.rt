@@ -3,11 +3,13 @@
 // Reads a card image and writes it again, or its load number and a line end.
 fn main(rt: HostRuntime) {
     let mut stderr = rt.stderr();
-    if !streams::without_arguments(
+    if !streams::arguments_given(
+        &rt,
         &mut stderr,
-        streams::argument_count(&rt),
         b"usage: rewrite_image (it takes no arguments; an image is read from standard input)\n",
-    ) {
+    )
+    .none
+    {
         return;
     }
     // What stands past 1,119 bytes changes nothing (`Rewrites`, field `enough`).

@@ -6,11 +6,13 @@ use requests::Dialect;
 
 fn main(rt: HostRuntime) {
     let mut stderr = rt.stderr();
-    if streams::without_arguments(
+    if streams::arguments_given(
+        &rt,
         &mut stderr,
-        streams::argument_count(&rt),
         b"usage: stand_in (it takes no arguments; lines are read from standard input)\n",
-    ) {
+    )
+    .none
+    {
         line_programs::run(
             Dialect::StandIn,
             &mut rt.stdin(),

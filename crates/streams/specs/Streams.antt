@@ -1,7 +1,8 @@
 -- What follows from what the system answered to a reading.
-use Rattle.std.specs.Prelude.{ℕ, zero, suc, ◌≡◌, ◌≤◌, List, Option, length, take, Bool, true, false, ◌&&◌, ℤ, pos, negsuc}
+use Rattle.std.specs.Prelude.{ℕ, zero, suc, ◌≡◌, ◌≤◌, List, Option, length, take, Bool, true, false, ◌&&◌, ℤ, pos, negsuc, nat_le}
 use Rattle.std.specs.Io.KnownBytes.{Appends}
 use Rattle.streams.specs.declared.Reading.{Reading}
+use Rattle.streams.specs.declared.Arguments.{Arguments}
 
 -- What the system may answer where there is room for n bytes: -1, or how many bytes it brought, no more than there is room for.
 abbrev pub Moved : ℕ → ℤ → Type 0
@@ -51,3 +52,7 @@ reading_for got interrupted = record {
 -- A reading as it follows from what the system answered.
 abbrev pub IsReading : Reading → Type 0
 IsReading r = r ≡ reading_for r.got r.interrupted
+
+-- What a program was given, by how many arguments the system counts, the program's name among them.
+abbrev pub arguments_for : ℕ → Arguments
+arguments_for n = record { count = n; none = nat_le n 1 }

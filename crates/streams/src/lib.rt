@@ -6,7 +6,7 @@
 ghost use Rattle.std.specs.Prelude.{◌≡◌, ◌↔◌, ◌<◌, ◌≤◌, IsTrue, OnErr, OnOk, is_ok, length, nat_le, take};
 ghost use Rattle.std.specs.IoError.{error_kind};
 ghost use Rattle.std.specs.Io.KnownBytes.{Appends, Consumes, IsAtEnd};
-ghost use Rattle.streams.specs.Streams.{AppendsFront, Moved, IsPrefixLen, failed, at_end, reads_on, reading_for};
+ghost use Rattle.streams.specs.Streams.{AppendsFront, Moved, IsPrefixLen, failed, at_end, reads_on, reading_for, arguments_for};
 
 use std::env::FillError;
 use std::io;
@@ -22,6 +22,13 @@ pub struct Reading {
     pub count: usize,
     pub ended: bool,
     pub more: bool,
+}
+
+// How many arguments the system says that the program was started with, its own name among them, and whether that is none beside it.
+#[derive(Clone, Copy)]
+pub struct Arguments {
+    pub count: usize,
+    pub none: bool,
 }
 
 // Whether a reading failed, by what the system answered.
@@ -106,7 +113,7 @@ pub fn written_or_said<E: Write>(stderr: &mut E, outcome: io::Result<()>) -> boo
 }
 
 // How many arguments the program was started with, its own name among them.
-pub fn argument_count(rt: &impl Env) -> usize {
+fn argument_count(rt: &impl Env) -> usize {
     for i in 0..usize::MAX {
         if let Err(FillError::NotPresent) = rt.arg(i, &mut []) {
             return i;
@@ -124,6 +131,17 @@ pub fn without_arguments<E: Write>(stderr: &mut E, count: usize, usage: &[u8]) -
         return false;
     }
     true
+}
+
+// Asks the system for the program's arguments; where it was given any beside its name, its use is said.
+pub fn arguments_given<V: Env, E: Write>(rt: &V, stderr: &mut E, usage: &[u8]) -> Arguments
+    ensures { result ≡ arguments_for result.count }
+{
+    let count = argument_count(rt);
+    Arguments {
+        count,
+        none: without_arguments(stderr, count, usage),
+    }
 }
 
 // Writes a line: what failed, a colon and the system's words for why. Where that fails too, there is nobody to tell.
