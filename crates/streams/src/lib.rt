@@ -137,10 +137,10 @@ pub fn without_arguments<E: Write>(stderr: &mut E, count: usize, usage: &[u8]) -
 pub fn arguments_given<V: Env, E: Write>(rt: &V, stderr: &mut E, usage: &[u8]) -> Arguments
     ensures { result ≡ arguments_for result.count }
 {
-    let count = argument_count(rt);
+    let given = argument_count(rt);
     Arguments {
-        count,
-        none: without_arguments(stderr, count, usage),
+        count: given,
+        none: without_arguments(stderr, given, usage),
     }
 }
 
