@@ -1,22 +1,28 @@
 #![tactic(auto)]
 
 // What a command or a delivery answers, and the one function that writes it to a caller's buffer.
-ghost use Rattle.std.specs.Prelude.{◌≡◌, [], take};
+ghost use Rattle.std.specs.Prelude.{◌≡◌, ◌≤◌, ◌+◌, [], length, take};
+ghost use Rattle.rules.specs.declared.Card.{Card};
 ghost use Rattle.rules.specs.Numbers.{kind_number, returned};
 ghost use Rattle.rules.specs.Answers.{response, job};
+ghost use Rattle.rules.specs.Edge.{response_in};
 ghost use Rattle.answers.specs.Outputs.{output_for, output_of, written_or};
 
-use rules::{Card, JobKind, Outcome, Refusal, Reply};
+use rules::{JobKind, Refusal, Reply};
 
-// What is answered, in bytes[..len]: kind 0 is a response with its status word; kind 1 to 3 is a job of that kind with its
-// key. Unused places are zero.
+// Response data: the first len of these bytes, with zeros in the unused places. In fixed places, since there is no heap.
 #[derive(Clone, Copy)]
-pub struct Output {
-    pub kind: u16,
-    pub key: u16,
-    pub sw: u16,
+pub struct Data {
     pub bytes: [u8; 256],
     pub len: usize,
+}
+
+// What is answered: response data and a status word; or a job of a kind, with its key and its block. A status word is a number, here and
+// below, as the card writes it and the papers print it; two of them carry a count (63Cx, 61xx).
+#[derive(Clone, Copy)]
+pub enum Output {
+    Response(Data, u16),
+    Job(JobKind, u16, [u8; 256]),
 }
 
 // A status word alone.
@@ -24,69 +30,52 @@ pub fn status(sw: u16) -> Output
     ensures { result ≡ output_for (response [] sw) }
 {
     let bytes = [0u8; 256];
-    Output {
-        kind: 0,
-        key: 0,
-        sw: sw,
-        bytes: bytes,
-        len: 0,
-    }
+    Output::Response(Data { bytes, len: 0 }, sw)
 }
 
 // Response data, at most 256 bytes of it, and a status word.
 pub fn with_data(d: &[u8], sw: u16) -> Output
     ensures { result ≡ output_for (response (take 256 d.now) sw) }
 {
-    let bytes = arrays::filled_256(d);
+    let bytes = arrays::filled::<256>(d);
     let len = octets::part(d, 0, 256).len();
-    Output {
-        kind: 0,
-        key: 0,
-        sw: sw,
-        bytes: bytes,
-        len: len,
-    }
+    Output::Response(Data { bytes, len }, sw)
 }
 
 // A job for the key host.
 pub fn handed_out(kind: JobKind, key: u16, block: [u8; 256]) -> Output
     ensures { result ≡ output_for (job (kind_number kind) key block) }
 {
-    Output {
-        kind: keys::kind_number(kind),
-        key: key,
-        sw: 0,
-        bytes: block,
-        len: 256,
-    }
+    Output::Job(kind, key, block)
 }
 
-// Writes an answer to a buffer of at least 258 bytes, and no byte more: data and status word, or a job's block.
-pub fn write(card: Card, output: Output, buffer: &mut [u8]) -> Outcome
-    ensures { record { returned = returned result.reply; card = result.card; buffer = buffer.new } ≡ written_or buffer.old card (output_of output) }
+// Data and a status word, written to a buffer that has room for them.
+fn write_response(d: Data, sw: u16, buffer: &mut [u8]) -> usize
+    requires { 258 ≤ length buffer.old }
+    ensures { (result ≡ length (take d.len d.bytes) + 2) × (buffer.new ≡ response_in buffer.old (take d.len d.bytes) sw) }
+{
+    let shown = octets::part(&d.bytes, 0, d.len);
+    let end = shown.len();
+    writing::copy_at(buffer, 0, shown);
+    let [high, low] = sw.to_be_bytes();
+    buffer[end] = high;
+    buffer[end + 1] = low;
+    end + 2
+}
+
+// Writes an answer to a buffer of at least 258 bytes, and no byte more: data and status word, or a job's block. No card is touched: the
+// clause says it of every card.
+pub fn write(output: Output, buffer: &mut [u8]) -> Result<Reply, Refusal>
+    ensures { (card : Card) → record { returned = returned result; card = card; buffer = buffer.new } ≡ written_or buffer.old card (output_of output) }
 {
     if buffer.len() < 258 {
-        return Outcome {
-            card: card,
-            reply: Reply::Refused(Refusal::ShortBuffer),
-        };
+        return Err(Refusal::ShortBuffer);
     }
-    let bytes = output.bytes;
-    let len = output.len;
-    let shown = octets::part(&bytes, 0, len);
-    let at = shown.len();
-    writing::copy_at(buffer, 0, shown);
-    let kind = output.kind;
-    if kind != 0 {
-        return Outcome {
-            card: card,
-            reply: Reply::HandedOut(keys::kind_of(kind), output.key),
-        };
-    }
-    buffer[at] = numbers::high(output.sw);
-    buffer[at + 1] = numbers::low(output.sw);
-    Outcome {
-        card: card,
-        reply: Reply::Response(at + 2),
+    match output {
+        Output::Response(data, sw) => Ok(Reply::Response(write_response(data, sw, buffer))),
+        Output::Job(kind, key, block) => {
+            writing::copy_at(buffer, 0, &block);
+            Ok(Reply::HandedOut(kind, key))
+        }
     }
 }

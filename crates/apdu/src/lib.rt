@@ -6,7 +6,7 @@ ghost use Rattle.rules.specs.Numbers.{length_form};
 ghost use Rattle.rules.specs.Apdu.{le_of, parse};
 ghost use Rattle.apdu.specs.Reach.{le_in_reach};
 
-use rules::{Header, Parsed};
+use rules::Header;
 
 // Where the data of a command start, if it has any.
 const DATA_START: usize = 5;
@@ -15,21 +15,21 @@ const DATA_START: usize = 5;
 fn le_of(x: u8) -> u16
     ensures { result ≡ le_of x }
 {
-    if x == 0 {
-        return 256;
+    match x {
+        0 => 256,
+        _ => u16::from(x),
     }
-    x as u16
 }
 
-// The length form of a command's bytes: its header with Lc and Le, and where its data start; or malformed.
-pub fn parse(apdu: &[u8]) -> Parsed
+// The length form of a command's bytes: its header with Lc and Le, and where its data start; none where it is malformed.
+pub fn parse(apdu: &[u8]) -> Option<(Header, usize)>
     ensures { length_form result ≡ parse apdu.now }
 {
     let n = apdu.len();
     if n < 4 {
-        return Parsed::Malformed;
+        return None;
     }
-    let mut h = Header {
+    let header = Header {
         cla: apdu[0],
         ins: apdu[1],
         p1: apdu[2],
@@ -38,35 +38,32 @@ pub fn parse(apdu: &[u8]) -> Parsed
         le: 0,
     };
     if n == 4 {
-        return Parsed::Form(h, DATA_START);
+        return Some((header, DATA_START));
     }
     if n == 5 {
-        h.le = le_of(apdu[4]);
-        return Parsed::Form(h, DATA_START);
+        let le = le_of(apdu[4]);
+        return Some((Header { le, ..header }, DATA_START));
     }
-    let lc = numbers::wide(apdu[4]);
+    let lc = usize::from(apdu[4]);
     if lc == 0 {
-        return Parsed::Malformed;
+        return None;
     }
-    h.lc = lc;
     if n == 5 + lc {
-        return Parsed::Form(h, DATA_START);
+        return Some((Header { lc, ..header }, DATA_START));
     }
     if n == 6 + lc {
-        h.le = le_of(apdu[n - 1]);
-        return Parsed::Form(h, DATA_START);
+        let le = le_of(apdu[n - 1]);
+        return Some((Header { lc, le, ..header }, DATA_START));
     }
-    Parsed::Malformed
+    None
 }
 
 // The header with no more than 256 as Le.
 pub fn in_reach(h: Header) -> Header
     ensures { result ≡ le_in_reach h }
 {
-    if h.le <= 256 {
-        return h;
+    Header {
+        le: h.le.min(256),
+        ..h
     }
-    let mut next = h;
-    next.le = 256;
-    next
 }

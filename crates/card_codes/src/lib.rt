@@ -1,12 +1,14 @@
 #![tactic(auto)]
 
-// The three codes of a card and the unblocking counts of its PINs, by the codes' numbers, read and replaced.
+// The three codes of a card and the unblocking counts of its PINs, by the codes' numbers, read and replaced. Codes and counts have
+// functions of their own, since a PIN's count stands at another place than its code.
 ghost use Rattle.std.specs.Prelude.{◌≡◌, ◌-◌};
 ghost use Rattle.rules.specs.Codes.{zero_code, code_of, with_code, closed, count_of, with_count};
 
 use rules::Code;
 
 // A code of all zeros.
+#[tactic(auto, unfolding(octets::specs::Octets::blank))]
 pub fn zero_code() -> Code
     ensures { result ≡ zero_code }
 {
@@ -22,22 +24,18 @@ pub fn zero_code() -> Code
 pub fn code_of(codes: [Code; 3], number: usize) -> Code
     ensures { result ≡ code_of codes number }
 {
-    if number < 3 {
-        return codes[number];
-    }
-    zero_code()
+    codes.get(number).copied().unwrap_or(zero_code())
 }
 
 // The codes with the code of a number replaced; as they are where there is none.
-pub fn with_code(codes: [Code; 3], number: usize, code: Code) -> [Code; 3]
+pub fn with_code(mut codes: [Code; 3], number: usize, code: Code) -> [Code; 3]
     ensures { result ≡ with_code codes number code }
 {
-    if 3 <= number {
-        return codes;
+    // Not by `get_mut`: what is written through it no proof knows.
+    if number < codes.len() {
+        codes[number] = code;
     }
-    let mut next = codes;
-    next[number] = code;
-    next
+    codes
 }
 
 // The codes with the verified mark of one of them off.
@@ -53,32 +51,24 @@ pub fn closed(codes: [Code; 3], number: usize) -> [Code; 3]
 fn place_of(pin: usize) -> usize
     ensures { result ≡ pin - 1 }
 {
-    if pin == 0 {
-        return 0;
-    }
-    pin - 1
+    pin.saturating_sub(1)
 }
 
 // The unblocking count of a PIN; 0 where there is none.
 pub fn count_of(counts: [u8; 2], pin: usize) -> u8
     ensures { result ≡ count_of counts pin }
 {
-    let place = place_of(pin);
-    if place < 2 {
-        return counts[place];
-    }
-    0
+    counts.get(place_of(pin)).copied().unwrap_or(0)
 }
 
 // The unblocking counts with that of a PIN replaced; as they are where there is none.
-pub fn with_count(counts: [u8; 2], pin: usize, n: u8) -> [u8; 2]
+pub fn with_count(mut counts: [u8; 2], pin: usize, n: u8) -> [u8; 2]
     ensures { result ≡ with_count counts pin n }
 {
     let place = place_of(pin);
-    if 2 <= place {
-        return counts;
+    // As in `with_code`.
+    if place < counts.len() {
+        counts[place] = n;
     }
-    let mut next = counts;
-    next[place] = n;
-    next
+    counts
 }

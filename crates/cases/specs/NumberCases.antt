@@ -1,17 +1,13 @@
 -- Document 01's numbers and values, and document 02's, for the cases of the code's enums.
-use Rattle.std.specs.Prelude.{◌≡◌, [], ◌∷◌, map}
+use Rattle.std.specs.Prelude.{◌≡◌, [], ◌∷◌, map, Some, None, Ok, Err}
 use Rattle.rules.specs.declared.Header.{Header}
-use Rattle.rules.specs.declared.Parsed.TheVariants.{Form, Malformed}
 use Rattle.rules.specs.declared.JobKind.TheVariants.{Authenticate, Sign, Decipher}
 use Rattle.rules.specs.declared.Refusal.TheVariants.{BadState, ShortBuffer, CertificateLength, JobWaiting}
 use Rattle.rules.specs.declared.Refusal.TheVariants.{NoJobWaiting}
-use Rattle.rules.specs.declared.Reply.TheVariants.{Refused, Response, HandedOut, WasReset}
+use Rattle.rules.specs.declared.Reply.TheVariants.{Response, HandedOut, WasReset}
 use Rattle.rules.specs.declared.Fault.TheVariants.{EndsEarly, WrongCount, BadCode, BadKey, BadReference}
 use Rattle.rules.specs.declared.Fault.TheVariants.{RecordLength, LeftOver, UnblockingCount}
-use Rattle.rules.specs.declared.LoadResult.TheVariants.{Accepted, Faulty}
-use Rattle.rules.specs.declared.WriteResult.TheVariants.{NotWritten, Written}
 use Rattle.rules.specs.Numbers.{kind_number, refusal_number, edge, responded, handed_out, was_reset, returned}
-use Rattle.rules.specs.declared.Named.TheVariants.{Is, Nothing}
 use Rattle.rules.specs.declared.Command.TheVariants.{Verify}
 use Rattle.rules.specs.Numbers.{fault_number, load_number, unwritten, wrote, wrote_of, form, refused, length_form, names, names_none, naming}
 
@@ -31,16 +27,16 @@ pub record NumbersShown : Type 0 where
   pub faults :
       map fault_number (EndsEarly ∷ WrongCount ∷ BadCode ∷ BadKey ∷ BadReference ∷ RecordLength ∷ LeftOver ∷ UnblockingCount ∷ [])
       ≡ 21 ∷ 22 ∷ 23 ∷ 24 ∷ 25 ∷ 26 ∷ 27 ∷ 28 ∷ []
-  pub loads : map load_number (Accepted ∷ Faulty EndsEarly ∷ Faulty LeftOver ∷ Faulty UnblockingCount ∷ []) ≡ 0 ∷ 21 ∷ 27 ∷ 28 ∷ []
+  pub loads : map load_number (Ok tt ∷ Err EndsEarly ∷ Err LeftOver ∷ Err UnblockingCount ∷ []) ≡ 0 ∷ 21 ∷ 27 ∷ 28 ∷ []
   -- what a call returns: an edge refusal; a response and its length; a job, its kind and its key; a reset
   pub replies :
-      map returned (Refused ShortBuffer ∷ Response 12 ∷ HandedOut Sign 0x0200 ∷ WasReset ∷ [])
+      map returned (Err ShortBuffer ∷ Ok (Response 12) ∷ Ok (HandedOut Sign 0x0200) ∷ Ok WasReset ∷ [])
       ≡ edge 2 ∷ responded 12 ∷ handed_out 2 0x0200 ∷ was_reset ∷ []
   -- what the writer returns: an edge refusal's number; the image's length
   pub writes :
-      map wrote_of (NotWritten BadState ∷ NotWritten ShortBuffer ∷ Written 84 ∷ Written 1118 ∷ [])
+      map wrote_of (Err BadState ∷ Err ShortBuffer ∷ Ok 84 ∷ Ok 1118 ∷ [])
       ≡ unwritten 1 ∷ unwritten 2 ∷ wrote 84 ∷ wrote 1118 ∷ []
   -- the length form: a header and where its data start, or 6700
-  pub forms : map length_form (Form verify_header 5 ∷ Malformed ∷ []) ≡ form verify_header 5 ∷ refused 0x6700 ∷ []
+  pub forms : map length_form (Some (verify_header, 5) ∷ None ∷ []) ≡ form verify_header 5 ∷ refused 0x6700 ∷ []
   -- the command that a header names, or 6A86
-  pub named : map naming (Is Verify ∷ Nothing ∷ []) ≡ names Verify ∷ names_none 0x6A86 ∷ []
+  pub named : map naming (Some Verify ∷ None ∷ []) ≡ names Verify ∷ names_none 0x6A86 ∷ []

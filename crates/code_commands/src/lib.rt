@@ -2,7 +2,7 @@
 
 // VERIFY, CHANGE REFERENCE DATA and RESET RETRY COUNTER, as functions of the codes: the codes afterwards and a status word. And the
 // unblocking counts after RESET RETRY COUNTER.
-ghost use Rattle.std.specs.Prelude.{◌≡◌, ◌+◌, ◌-◌, take, drop};
+ghost use Rattle.std.specs.Prelude.{◌≡◌, ◌+◌, take, drop};
 ghost use Rattle.rules.specs.Codes.{marked, lowered};
 ghost use Rattle.rules.specs.Answers.{code_status};
 ghost use Rattle.rules.specs.CodeCommands.{verdict, judged, queried, verify, replaced};
@@ -15,54 +15,44 @@ use rules::{Code, CodeStep, Header, Verdict};
 fn code_status(codes: [Code; 3], sw: u16) -> CodeStep
     ensures { result ≡ code_status codes sw }
 {
-    CodeStep {
-        codes: codes,
-        sw: sw,
-    }
+    CodeStep { codes, sw }
 }
 
 // The same value, with other tries left and another verified mark.
 fn marked(code: Code, tries: u8, verified: bool) -> Code
     ensures { result ≡ marked code tries verified }
 {
-    let mut next = code;
-    next.tries = tries;
-    next.verified = verified;
-    next
-}
-
-// One try less; 63Cx with the tries left.
-fn one_less(tries: u8) -> u8
-    ensures { result ≡ tries - 1 }
-{
-    if tries == 0 {
-        return 0;
+    Code {
+        tries,
+        verified,
+        ..code
     }
-    tries - 1
 }
 
+// 63Cx with the tries left.
 fn wrong_status(left: u8) -> u16
     ensures { result ≡ 0x63C0 + left }
 {
-    0x63C0 + left as u16
+    0x63C0 + u16::from(left)
 }
 
 // A presented value is judged.
+#[tactic(auto, unfolding(rules::specs::CodeCommands::verdict))]
 fn verdict(code: Code, presented: &[u8]) -> Verdict
     ensures { result ≡ verdict code presented.now }
 {
     if code.tries == 0 {
         return Verdict::NoTries;
     }
-    let digits = code.digits;
-    let len = numbers::wide(code.len);
-    if octets::equal(presented, octets::part(&digits, 0, len)) {
+    let stored = octets::part(&code.digits, 0, usize::from(code.len));
+    if octets::equal(presented, stored) {
         return Verdict::Right;
     }
     Verdict::Wrong
 }
 
 // What follows for the code of a number.
+#[tactic(auto, unfolding(rules::specs::CodeCommands::judged))]
 fn judged(codes: [Code; 3], number: usize, found: Verdict) -> CodeStep
     ensures { result ≡ judged codes number found }
 {
@@ -73,7 +63,7 @@ fn judged(codes: [Code; 3], number: usize, found: Verdict) -> CodeStep
             code_status(card_codes::with_code(codes, number, opened), 0x9000)
         }
         Verdict::Wrong => {
-            let left = one_less(code.tries);
+            let left = code.tries.saturating_sub(1);
             let shut = marked(code, left, false);
             code_status(
                 card_codes::with_code(codes, number, shut),
@@ -85,6 +75,7 @@ fn judged(codes: [Code; 3], number: usize, found: Verdict) -> CodeStep
 }
 
 // 20 VERIFY without data asks whether a code is open. No code changes.
+#[tactic(auto, unfolding(rules::specs::CodeCommands::queried))]
 fn queried(codes: [Code; 3], number: usize) -> CodeStep
     ensures { result ≡ queried codes number }
 {
@@ -99,10 +90,11 @@ fn queried(codes: [Code; 3], number: usize) -> CodeStep
 }
 
 // 20 VERIFY: without data it asks, with data the value is judged.
+#[tactic(auto, unfolding(rules::specs::CodeCommands::verify))]
 pub fn verify(codes: [Code; 3], h: Header, presented: &[u8]) -> CodeStep
     ensures { result ≡ verify codes h presented.now }
 {
-    let number = numbers::wide(h.p2);
+    let number = usize::from(h.p2);
     if h.lc == 0 {
         return queried(codes, number);
     }
@@ -110,22 +102,16 @@ pub fn verify(codes: [Code; 3], h: Header, presented: &[u8]) -> CodeStep
     judged(codes, number, verdict(code, presented))
 }
 
-// The first of two values, as long as the one that a code stores; the second.
-fn old_value(code: Code, values: &[u8]) -> &[u8]
-    ensures { result.now ≡ take code.len values.now }
+// Two values, the first as long as the one that a code stores.
+fn two_values(code: Code, values: &[u8]) -> (&[u8], &[u8])
+    ensures old { result.0.now ≡ take code.len values.now }
+    ensures new { result.1.now ≡ drop code.len values.now }
 {
-    let len = numbers::wide(code.len);
-    octets::part(values, 0, len)
-}
-
-fn new_value(code: Code, values: &[u8]) -> &[u8]
-    ensures { result.now ≡ drop code.len values.now }
-{
-    let len = numbers::wide(code.len);
-    octets::part(values, len, values.len())
+    values.split_at(usize::from(code.len).min(values.len()))
 }
 
 // The value of code k was judged, and a new value for code j stands behind it; `stored` has it.
+#[tactic(auto, unfolding(rules::specs::CodeCommands::replaced))]
 fn replaced(
     codes: [Code; 3],
     k: usize,
@@ -137,31 +123,28 @@ fn replaced(
     ensures { result ≡ replaced codes k j new.now stored found }
 {
     match found {
-        Verdict::Right => {
-            if !codes::allowed(j, new) {
-                return code_status(codes, 0x6A80);
-            }
-            code_status(stored, 0x9000)
-        }
-        Verdict::Wrong => judged(codes, k, Verdict::Wrong),
-        Verdict::NoTries => judged(codes, k, Verdict::NoTries),
+        Verdict::Right if codes::allowed(j, new) => code_status(stored, 0x9000),
+        Verdict::Right => code_status(codes, 0x6A80),
+        Verdict::Wrong | Verdict::NoTries => judged(codes, k, found),
     }
 }
 
 // 24 CHANGE: the old value, as long as the stored one, then the new value. Answered 9000, it leaves the code open.
+#[tactic(auto, using(crate::proofs::Laws::replaced_whole), unfolding(rules::specs::CodeCommands::change))]
 pub fn change(codes: [Code; 3], h: Header, values: &[u8]) -> CodeStep
     ensures { result ≡ change codes h values.now }
 {
-    let number = numbers::wide(h.p2);
+    let number = usize::from(h.p2);
     let code = card_codes::code_of(codes, number);
-    let found = verdict(code, old_value(code, values));
-    let new = new_value(code, values);
+    let (old, new) = two_values(code, values);
+    let found = verdict(code, old);
     let next = codes::storing(new, Code::TRIES, true);
     let stored = card_codes::with_code(codes, number, next);
     replaced(codes, number, number, new, stored, found)
 }
 
 // What 2C leaves where it is answered 9000: `code` for the PIN, with three tries, `left` tries for PUK, and both marks off.
+#[tactic(auto, unfolding(rules::specs::CodeCommands::unblocked))]
 fn unblocked(codes: [Code; 3], pin: usize, code: Code, left: u8) -> [Code; 3]
     ensures { result ≡ unblocked codes pin code left }
 {
@@ -171,6 +154,7 @@ fn unblocked(codes: [Code; 3], pin: usize, code: Code, left: u8) -> [Code; 3]
 }
 
 // 2C with P1 03: the PUK was verified before.
+#[tactic(auto, unfolding(rules::specs::CodeCommands::unblock_by_verified_puk))]
 fn unblock_by_verified_puk(codes: [Code; 3], pin: usize) -> CodeStep
     ensures { result ≡ unblock_by_verified_puk codes pin }
 {
@@ -187,8 +171,8 @@ fn unblock_by_presented_puk(codes: [Code; 3], pin: usize, values: &[u8]) -> Code
     ensures { result ≡ unblock_by_presented_puk codes pin values.now }
 {
     let puk = card_codes::code_of(codes, Code::PUK);
-    let found = verdict(puk, old_value(puk, values));
-    let new = new_value(puk, values);
+    let (presented, new) = two_values(puk, values);
+    let found = verdict(puk, presented);
     let blocked = card_codes::code_of(codes, pin);
     let renewed = codes::storing(new, blocked.tries, blocked.verified);
     let stored = unblocked(codes, pin, renewed, Code::TRIES);
@@ -199,7 +183,7 @@ fn unblock_by_presented_puk(codes: [Code; 3], pin: usize, values: &[u8]) -> Code
 pub fn reset_retry(codes: [Code; 3], counts: [u8; 2], h: Header, values: &[u8]) -> CodeStep
     ensures { (result ≡ reset_retry codes counts h values.now) × LeavesClosed codes h.p2 result }
 {
-    let pin = numbers::wide(h.p2);
+    let pin = usize::from(h.p2);
     let code = card_codes::code_of(codes, pin);
     if code.tries != 0 {
         return code_status(codes, 0x6A86);
@@ -214,23 +198,26 @@ pub fn reset_retry(codes: [Code; 3], counts: [u8; 2], h: Header, values: &[u8]) 
 }
 
 // An unblocking count after an unblocking: one less, unless there is no limit.
+#[tactic(auto, unfolding(rules::specs::Codes::lowered))]
 fn lowered(n: u8) -> u8
     ensures { result ≡ lowered n }
 {
     if n == Code::NO_LIMIT {
-        return n;
+        n
+    } else {
+        n.saturating_sub(1)
     }
-    one_less(n)
 }
 
 // The unblocking counts after a 2C that was answered by a status word: 9000 lowers that of the PIN.
+#[tactic(auto, unfolding(rules::specs::CodeCommands::counts_left))]
 pub fn counts_left(counts: [u8; 2], h: Header, sw: u16) -> [u8; 2]
     ensures { result ≡ counts_left counts h.p2 sw }
 {
     if sw != 0x9000 {
         return counts;
     }
-    let pin = numbers::wide(h.p2);
+    let pin = usize::from(h.p2);
     let left = lowered(card_codes::count_of(counts, pin));
     card_codes::with_count(counts, pin, left)
 }

@@ -12,6 +12,7 @@ use steps::SessionOutput;
 pub fn deliver(s: Session, res: &[u8]) -> SessionOutput
     ensures { result ≡ session_output_for (deliver s res.now) }
 {
+    // No job, as the rules' `no_job`; it stands out in each of the three literals that have it.
     let none = Job {
         kind: 0,
         key: 0,
@@ -25,12 +26,9 @@ pub fn deliver(s: Session, res: &[u8]) -> SessionOutput
     if s.job.kind != 3 {
         return steps::give(ended, le, res);
     }
-    let start = pkcs1::shoalpennant_strip(res);
-    if start == 0 {
-        return steps::session_status(ended, 0x6A80);
+    match pkcs1::shoalpennant_strip(res) {
+        0 => steps::session_status(ended, 0x6A80),
+        256 => steps::session_status(ended, 0x9000),
+        start => steps::give(ended, le, octets::part(res, start, 256)),
     }
-    if start == 256 {
-        return steps::session_status(ended, 0x9000);
-    }
-    steps::give(ended, le, octets::part(res, start, 256))
 }

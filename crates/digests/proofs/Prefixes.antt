@@ -1,18 +1,30 @@
--- A prefix and n bytes, by length and then by the prefix.
-use mathlib.Core.Path.{◌≡◌}
-use mathlib.Core.Logic.{◌≢◌}
-use mathlib.Core.Bool.{false, and-false, and-true}
+-- A string cut at a prefix, and the length of what is left.
+use mathlib.Core.Path.{◌≡◌, refl, ap}
+use mathlib.Core.Bool.{Bool, true, false, ◌&&◌}
+use mathlib.Core.List.{[], ◌∷◌}
 use Prim.Native.Nat.{ℕ, ◌+◌}
-use lib.ListN.{length, take}
-use borrow.Author.Tests.{eq-eqb, ne_eqb}
+use lib.Dec.{eqb}
+use lib.ListN.{length, take, drop}
+use denote.Ref.{Bor}
+use Rattle.std.specs.Prelude.{Option, Some, None, MatchOption}
+use native.Mathlib.Omega.{arith}
+use Rattle.std.specs.Cmp.Lexicographic.{pointwise}
 use Rattle.octets.specs.Octets.{Bytes, same}
 use Rattle.rules.specs.Digests.{prefixed}
 
-module _ (prefix : Bytes) (n : ℕ) (d : Bytes) where
-  pub wrong_length : length d ≢ length prefix + n → false ≡ prefixed prefix n d
-  unfolding prefixed
-  wrong_length h = simp (ne_eqb (length d) (length prefix + n) h, and-false)
+alike : (a b : Bytes) → pointwise eqb a b ≡ same a b
+alike [] [] = refl
+alike [] (y ∷ ys) = refl
+alike (x ∷ xs) [] = refl
+alike (x ∷ xs) (y ∷ ys) = ap (λ t. eqb x y && t) (alike xs ys)
 
-  pub right_length : length d ≡ length prefix + n → same (take (length prefix) d) prefix ≡ prefixed prefix n d
+module _ (prefix : Bytes) (n : ℕ) (d : Bytes) where
+  abbrev Begins : Bool → Type 0
+  Begins b = pointwise eqb (take (length prefix) d) prefix ≡ b
+
+  -- What is left of a string without a prefix, if it begins with it, and a test of its length.
+  pub stripped : (r : Option (Bor Bytes)) (b : Bool) → MatchOption r (Begins false) (λ x. Begins true × (x.now ≡ drop (length prefix) d) × (length x.now + length prefix ≡ length d))
+      → (r ≡ None → b ≡ false) → ((x : Bor Bytes) → r ≡ Some x → b ≡ eqb (length x.now) n) → b ≡ prefixed prefix n d
   unfolding prefixed
-  right_length h = simp (eq-eqb (length d) (length prefix + n) h, and-true)
+  stripped None b h none some = rw (none refl, ← alike (take (length prefix) d) prefix, h)
+  stripped (Some x) b h none some = rw (some x refl, ← alike (take (length prefix) d) prefix, h.0, ← h.2) (grind arith)

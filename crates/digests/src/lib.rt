@@ -4,7 +4,8 @@
 ghost use Rattle.std.specs.Prelude.{◌≡◌};
 ghost use Rattle.rules.specs.Digests.{prefixed, row, sha2_form, fits, is_digest};
 
-// What differs between the SHA-2 forms: L, A and H of document 01, in this order.
+// What differs between the SHA-2 forms: L, A and H of document 01, in this order. Without field names a row is one short line, as
+// in the rules.
 #[derive(Clone, Copy)]
 struct Row(u8, u8, u8);
 
@@ -12,14 +13,7 @@ struct Row(u8, u8, u8);
 fn prefixed(prefix: &[u8], n: usize, d: &[u8]) -> bool
     ensures { result ≡ prefixed prefix.now n d.now }
 {
-    let front = prefix.len();
-    if d.len() < front {
-        return false;
-    }
-    if d.len() - front != n {
-        return false;
-    }
-    octets::equal(octets::part(d, 0, front), prefix)
+    d.strip_prefix(prefix).is_some_and(|hash| hash.len() == n)
 }
 
 // Whether d is a digest of the SHA-2 form: its lengths are l and h, its algorithm's last byte is a.
@@ -30,7 +24,7 @@ fn sha2(l: u8, a: u8, h: u8, d: &[u8]) -> bool
         0x30, l, 0x30, 0x0D, 0x06, 0x09, 0x60, 0x86, 0x48, 0x01, 0x65, 0x03, 0x04, 0x02, a, 0x05,
         0x00, 0x04, h,
     ];
-    prefixed(&prefix, numbers::wide(h), d)
+    prefixed(&prefix, usize::from(h), d)
 }
 
 // Whether d is a digest that SIGN accepts: SHA-1's, or one of a row.
@@ -45,12 +39,5 @@ pub fn is_digest(d: &[u8]) -> bool
         Row(0x51, 0x03, 0x40), // SHA-512
     ];
     let sha1 = b"\x30\x21\x30\x09\x06\x05\x2B\x0E\x03\x02\x1A\x05\x00\x04\x14";
-    let mut found = prefixed(sha1, 20, d);
-    let mut i = 0;
-    while i < rows.len() {
-        let row = rows[i];
-        found = found | sha2(row.0, row.1, row.2, d);
-        i += 1;
-    }
-    found
+    prefixed(sha1, 20, d) || rows.iter().any(|Row(l, a, h)| sha2(*l, *a, *h, d))
 }

@@ -2,70 +2,69 @@
 
 // MANAGE SECURITY ENVIRONMENT, as functions of values: the next session and the answer.
 ghost use Rattle.std.specs.Prelude.{◌≡◌};
-ghost use Rattle.rules.specs.KeyCommands.{set_environment, kind_chosen, choosing, names_key, choose_key};
+ghost use Rattle.rules.specs.Numbers.{kind_number};
+ghost use Rattle.rules.specs.KeyCommands.{set_environment, kind_chosen, choosing, choose_key};
 ghost use Rattle.steps.specs.Steps.{session_output_for};
 
-use rules::{Header, Session};
+use rules::{Environment, Header, JobKind, Session};
 use steps::SessionOutput;
 
 // 22 F3: environment 1 or 6, with all key choices at "active".
+#[tactic(auto, unfolding(rules::specs::KeyCommands::set_environment))]
 pub fn set_environment(s: Session, h: Header) -> SessionOutput
     ensures { result ≡ session_output_for (set_environment s h) }
 {
-    let number = h.p2 as u16;
-    if (number == 1) | (number == 6) {
-        let next = state::with_environment(s, number, [0u16; 3]);
-        return steps::session_status(next, 0x9000);
+    match h.p2 {
+        1 | 6 => {
+            let next = state::with_environment(s, u16::from(h.p2), [0; 3]);
+            steps::session_status(next, 0x9000)
+        }
+        _ => steps::session_status(s, 0x6A88),
     }
-    steps::session_status(s, 0x6A88)
 }
 
 // The kind of job that P2 of 22 41 names.
-fn kind_chosen(p2: u8) -> u16
-    ensures { result ≡ kind_chosen p2 }
+#[tactic(auto, unfolding(rules::specs::KeyCommands::kind_chosen))]
+fn kind_chosen(p2: u8) -> JobKind
+    ensures { kind_number result ≡ kind_chosen p2 }
 {
     match p2 {
-        0xA4 => 1,
-        0xB6 => 2,
-        _ => 3,
+        0xA4 => JobKind::Authenticate,
+        0xB6 => JobKind::Sign,
+        _ => JobKind::Decipher,
     }
 }
 
-// The session with another key choice for the kind of job that P2 names; 0 is "active".
-fn choosing(s: Session, p2: u8, key: u16) -> Session
-    ensures { result ≡ choosing s (kind_chosen p2) key }
+// The session with another key choice for a kind of job; 0 is "active".
+fn choosing(s: Session, kind: JobKind, key: u16) -> Session
+    ensures { result ≡ choosing s (kind_number kind) key }
 {
-    let environment = s.environment;
-    let mut choices = environment.choices;
-    let place = numbers::wide16(kind_chosen(p2)) - 1;
-    choices[place] = key;
-    state::with_environment(s, environment.number, choices)
-}
-
-// Whether the data of 22 41 has the shape that names a key: 83 03 80 and two bytes.
-fn names_key(d: &[u8]) -> bool
-    ensures { result ≡ names_key d.now }
-{
-    let heading = octets::equal(octets::part(d, 0, 3), b"\x83\x03\x80");
-    (d.len() == 5) & heading
+    let Environment {
+        number,
+        mut choices,
+    } = s.environment;
+    choices[usize::from(u16::from(kind)) - 1] = key;
+    state::with_environment(s, number, choices)
 }
 
 // 22 41: chooses the active key or a key by its reference, for the jobs of one kind.
+#[tactic(auto, unfolding(rules::specs::KeyCommands::choose_key))]
 pub fn choose_key(keys: [bool; 4], s: Session, h: Header, d: &[u8]) -> SessionOutput
     ensures { result ≡ session_output_for (choose_key keys s h d.now) }
 {
-    if octets::equal(d, b"\x83\x00") {
-        return steps::session_status(choosing(s, h.p2, 0), 0x9000);
+    let kind = kind_chosen(h.p2);
+    match *d {
+        [0x83, 0x00] => steps::session_status(choosing(s, kind, 0), 0x9000),
+        [0x83, 0x03, 0x80, high, low] => {
+            let key = u16::from_be_bytes([high, low]);
+            if !keys::of_class(kind, key) {
+                return steps::session_status(s, 0x6A80);
+            }
+            if !keys::present(keys, key) {
+                return steps::session_status(s, 0x6A88);
+            }
+            steps::session_status(choosing(s, kind, key), 0x9000)
+        }
+        _ => steps::session_status(s, 0x6A80),
     }
-    if !names_key(d) {
-        return steps::session_status(s, 0x6A80);
-    }
-    let key = numbers::word(octets::byte_at(d, 3), octets::byte_at(d, 4));
-    if !keys::of_class(kind_chosen(h.p2), key) {
-        return steps::session_status(s, 0x6A80);
-    }
-    if !keys::present(keys, key) {
-        return steps::session_status(s, 0x6A88);
-    }
-    steps::session_status(choosing(s, h.p2, key), 0x9000)
 }

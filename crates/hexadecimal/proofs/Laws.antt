@@ -2,16 +2,17 @@
 use mathlib.Core.Path.{◌≡◌, refl, sym, ap, ◌∙◌}
 use mathlib.Core.Logic.{◌≢◌}
 use mathlib.Core.Bool.{true, ◌&&◌}
-use mathlib.Core.List.{[], ◌∷◌}
-use Prim.Native.Nat.{ℕ, zero, suc, ◌+◌, ◌*◌, ◌/◌, ◌%◌, ◌≤◌, ◌<◌}
+use mathlib.Core.List.{[], ◌∷◌, ◌++◌, append-nil}
+use Prim.Native.Nat.{ℕ, zero, suc, ◌+◌, ◌*◌, ◌/◌, ◌%◌, ◌≤◌, ◌<◌, min}
 use native.Mathlib.Nat.{zero-add, not-suc-le-zero}
 use native.Mathlib.Numerals.{add-one}
 use native.Mathlib.Omega.{arith}
 use lib.Dec.{leb}
-use lib.ListN.{length, set}
+use lib.ListN.{length, set, take, drop, length-take, drop_of_length-le}
 use lib.Seq.{paste, paste-suc}
 use borrow.Author.Tests.{lt-ltb}
-use Rattle.octets.specs.Octets.{Bytes, byte_at, all_bytes}
+use Rattle.octets.specs.Octets.{Bytes, byte_at, all_bytes, pasted}
+use Rattle.octets.proofs.Pasting.{paste_fitting}
 use Rattle.octets.proofs.Tests.{split}
 use Rattle.octets.proofs.Lists.{between}
 use Rattle.hexadecimal.specs.Hex.{hex_value, hex_character, bytes_of, hex_of}
@@ -93,3 +94,20 @@ byte_more dst s j {x} h k e =
     let twice : 2 * j ≡ j + j = omega arith in
     let it : byte_at (bytes_of s) j ≡ x = rw (e, twice, add-one) (byte_at_bytes_of s j (omega (arith, length_pairs s))) in
     rw (← it, add-one) (simp zero-add (simp zero-add at (paste-suc dst 0 (bytes_of s) j 0 (omega arith) k)))
+
+-- The front of a string, written over from its first place on, with the rest behind it.
+pub front_pasted : (dst src : Bytes) (n : ℕ) → n ≡ min (length src) (length dst) → paste (take n dst) 0 src n ++ drop n dst ≡ pasted dst 0 src
+front_pasted dst src n e =
+    let none : drop n (take n dst) ≡ [] = drop_of_length-le (take n dst) {i = n} (omega (arith, length-take n dst)) in
+    rw (zero-add n, none, append-nil (take n src)) (rw zero-add at (paste_fitting dst 0 src n (omega arith)))
+
+-- One more digit in its place.
+pub digit_more : (dst src : Bytes) (j : ℕ) {x : ℕ} → j < length dst → j < length src → x ≡ byte_at src j
+    → set (paste dst 0 src j) j x ≡ paste dst 0 src (j + 1)
+digit_more dst src j h k e = rw (e, add-one) (simp zero-add (simp zero-add at (paste-suc dst 0 src j 0 (omega arith) k)))
+
+-- A string written over from its first place to its end.
+pub whole_pasted : (dst src : Bytes) (n : ℕ) → length dst ≡ n → paste dst 0 src n ≡ take n src
+whole_pasted dst src n e =
+    let none : drop n dst ≡ [] = drop_of_length-le dst {i = n} (omega arith) in
+    rw (zero-add n, none, append-nil (take n src))

@@ -10,12 +10,9 @@ use lib.ListN.{get_or}
 use borrow.Author.Tests.{ne_eqb}
 use Rattle.octets.specs.Octets.{Bytes, member}
 use Rattle.octets.proofs.Tests.{either}
-use Rattle.rules.specs.declared.Fault.TheVariants.{BadKey}
-use Rattle.rules.specs.Image.{Reading, continued, ◌>>=◌, ◌>>◌, pure, require, byte_if, read_key, read_keys, key_section}
-use Rattle.image.specs.declared.Cursor.{Cursor}
-use Rattle.image.specs.Cursors.{from, up_to, required, within}
+use Rattle.rules.specs.Image.{Read, Reading, got, fault, continued, ◌>>=◌, pure, require, read_key, read_keys, key_marks}
 use Rattle.image.specs.Marks.{with_mark, marked_keys}
-use Rattle.image.proofs.Readings.{in_pieces, same_next, after, same_from, required_law}
+use Rattle.image.proofs.Readings.{in_pieces, same_next}
 
 -- The marks of the keys read so far and of those that follow.
 unfoldable pub marks_with : List Bool → List ℕ → List Bool
@@ -40,58 +37,54 @@ marks_more marks key keys =
       equal_either_way key 0x1200,
     )
 
+pub no_marks : false ∷ false ∷ false ∷ false ∷ [] ≡ marks_with (false ∷ false ∷ false ∷ false ∷ []) []
+unfolding marks_with
+no_marks = refl
+
 pub marks_kept : (marks : List Bool) (key : ℕ) → with_mark marks key ≡ marks_with (with_mark marks key) []
 unfolding with_mark marks_with
 marks_kept marks key = simp or-false
 
+-- What is read in all, where the marks of the keys so far are known and n more follow.
 abbrev pub marks_from : List Bool → ℕ → ℕ → Reading (List Bool)
 marks_from marks n last = do
   keys ← read_keys n last
   pure (marks_with marks keys)
 
-one_key : (marks : List Bool) (n last : ℕ) (b : Bytes)
-    → continued (read_key last b) (λ key. marks_from (with_mark marks key) n key) ≡ marks_from marks (suc n) last b
-unfolding read_keys
-one_key marks n last b =
-    same_next (read_key last b) (λ key b.
-    same_next (read_keys n key b) (λ keys b. ap (λ (marks : List Bool). pure marks b) (marks_more marks key keys))
-    ∙ sym (in_pieces (read_keys n key b) _ _))
-    ∙ sym (in_pieces (read_key last b) _ _)
-
-pub no_key_yet : (image : Bytes) (c : Cursor) (n : ℕ)
-    → from image c (marks_from (false ∷ false ∷ false ∷ false ∷ []) (n - 0) 0) ≡ from image c (marked_keys n)
+pub no_key_yet : (n : ℕ) (b : Bytes) → marks_from (false ∷ false ∷ false ∷ false ∷ []) (n - 0) 0 b ≡ marked_keys n b
 unfolding marked_keys marks_with
-no_key_yet image c n = rw (sub-zero n)
+no_key_yet n b = rw (sub-zero n)
 
-module _ (image : Bytes) (n i last : ℕ) (marks : List Bool) where
-  pub one_key_more : (c d : Cursor) (key : ℕ) → up_to image d key ≡ from image c (read_key last) → i < n
-      → from image d (marks_from (with_mark marks key) (n - (i + 1)) key) ≡ from image c (marks_from marks (n - i) last)
-  one_key_more c d key e h =
-      let one : n - i ≡ suc (n - (i + 1)) = omega arith in
-      after image c d (read_key last) key (λ key. marks_from (with_mark marks key) (n - (i + 1)) key) e refl
-      ∙ same_from image c (λ b. rw one (one_key marks (n - (i + 1)) last b))
+module _ (marks : List Bool) (n i last : ℕ) (b : Bytes) where
+  module _ (inside : i < n) where
+    first_key : continued (read_key last b) (λ key. marks_from (with_mark marks key) (n - (i + 1)) key) ≡ marks_from marks (n - i) last b
+    unfolding read_keys
+    first_key =
+        let next : n - i ≡ suc (n - (i + 1)) = omega arith in
+        rw next
+        (same_next (read_key last b) (λ key b.
+        same_next (read_keys (n - (i + 1)) key b) (λ keys b. ap (λ (marks : List Bool). pure marks b) (marks_more marks key keys))
+        ∙ sym (in_pieces (read_keys (n - (i + 1)) key b) _ _))
+        ∙ sym (in_pieces (read_key last b) _ _))
 
-  pub no_key_more : (c : Cursor) → marks ≡ marks_with marks [] → n ≤ i → up_to image c marks ≡ from image c (marks_from marks (n - i) last)
+    pub one_key_more : (key : ℕ) (rest : Bytes) → got key rest ≡ read_key last b
+        → marks_from (with_mark marks key) (n - (i + 1)) key rest ≡ marks_from marks (n - i) last b
+    one_key_more key rest e = ap (λ (r : Read ℕ). continued r (λ key. marks_from (with_mark marks key) (n - (i + 1)) key)) e ∙ first_key
+
+    pub bad_key : (e : ℕ) → fault e ≡ read_key last b → fault e ≡ marks_from marks (n - i) last b
+    bad_key e s = ap (λ (r : Read ℕ). continued r (λ key. marks_from (with_mark marks key) (n - (i + 1)) key)) s ∙ first_key
+
+  pub no_key_more : marks ≡ marks_with marks [] → n ≤ i → got marks b ≡ marks_from marks (n - i) last b
   unfolding read_keys
-  no_key_more c e h = let none : n - i ≡ 0 = omega arith in rw none (ap (up_to image c) e)
+  no_key_more e h = let none : n - i ≡ 0 = omega arith in rw none (ap (λ (marks : List Bool). got marks b) e)
 
--- The section.
+-- Whether each class has a key.
 abbrev pub classes : List Bool → Bool
 classes marks = (get_or marks 0 false || get_or marks 1 false) && (get_or marks 2 false || get_or marks 3 false)
 
-module _ (image : Bytes) (c c₁ c₂ : Cursor) (x n : ℕ) (marks : List Bool) where
-  abbrev marked_then_test : Reading (List Bool)
-  marked_then_test = do
-    marks ← marked_keys n
-    require (classes marks) 24
-    pure marks
-
-  pub keys_read : n ≡ x → up_to image c₁ x ≡ from image c (byte_if (within 2 4) 22)
-      → up_to image c₂ marks ≡ from image c₁ (marked_keys n)
-      → up_to image (required c₂ (classes marks) BadKey) marks ≡ from image c key_section
-  unfolding marked_keys key_section
-  keys_read w e₁ e₂ =
-      let number : up_to image c₁ n ≡ from image c (byte_if (within 2 4) 22) = rw w e₁ in
-      let tested : up_to image (required c₂ (classes marks) BadKey) marks ≡ from image c₁ marked_then_test =
-      after image _ _ _ _ _ e₂ (after image _ _ _ _ _ (required_law image c₂ (classes marks) BadKey) refl) in
-      after image _ _ _ _ _ number (tested ∙ same_from image c₁ (λ b. in_pieces (read_keys n 0 b) _ _))
+-- The marks, and then the test of the classes.
+pub classes_tested : (keys : Read (List ℕ)) (marks : Read (List Bool)) → marks ≡ continued keys (λ keys. pure (key_marks keys))
+    → continued marks (λ marks b. continued (require (classes marks) 24 b) (λ _. pure marks))
+    ≡ continued keys (λ keys b. continued (require (classes (key_marks keys)) 24 b) (λ _. pure (key_marks keys)))
+classes_tested keys marks e =
+    ap (λ (r : Read (List Bool)). continued r (λ marks b. continued (require (classes marks) 24 b) (λ _. pure marks))) e ∙ in_pieces keys _ _

@@ -1,2 +1,2 @@
-pub mod Cursors
+pub mod Results
 pub mod Marks

@@ -1,9 +1,28 @@
 -- What is known of an image that was read into a room.
-use Rattle.std.specs.Prelude.{ℕ, ◌≤◌}
-use Rattle.streams.specs.Streams.{IsReading}
-use Rattle.image_input.specs.declared.ImageRead.{ImageRead}
+use Rattle.std.specs.Prelude.{ℕ, ◌<◌, ◌≤◌, List, length, Option, Result, Ok, Err, take}
+use Rattle.std.specs.Io.KnownBytes.{Appends, Consumes, IsAtEnd}
+use Rattle.std.specs.Fn.{Once}
+use denote.Ref.{Bor, MutBor}
+use Rattle.image_input.specs.declared.Unfinished.{Unfinished}
 
--- No more was read than the room holds, and the last reading follows from what the system answered.
-pub record ReadInto (room : ℕ) (r : ImageRead) : Type 0 where
-  pub fits : r.len ≤ room
-  pub last : IsReading r.last
+-- How many bytes were read.
+abbrev pub came : Result ℕ Unfinished → ℕ
+came (Ok len) = len
+came (Err unfinished) = unfinished.len
+
+-- A call that puts a text of an image into a room, and answers how long it is.
+abbrev pub Putting : Type 0 → Type 1
+Putting F = Once F (Bor (List ℕ) × (MutBor (List ℕ) × Unit {0})) (ℕ × (MutBor (List ℕ) × Unit {0}))
+
+-- An image was read, to the end of the input or as much as decides; f put a text of it into a room, and the front of the room was
+-- written, as much as f answered.
+pub record Answered {F : Type 0} (puts : Putting F) (f : F) (left left' had has : Option (List ℕ)) : Type 0 where
+  pub image : Bor (List ℕ)
+  pub read : Consumes left left' image.now
+  pub fits : length image.now ≤ 1119
+  pub at_end : length image.now < 1119 → IsAtEnd left'
+  pub room : MutBor (List ℕ)
+  pub end : ℕ
+  pub after : MutBor (List ℕ)
+  pub put : puts.post f (image, (room, tt)) (end, (after, tt))
+  pub written : Appends had has (take end after.now)

@@ -1,67 +1,69 @@
 #![tactic(auto)]
 
-// A card image read from standard input, never more of it than its room holds. No contract can say which bytes the system brings
-// (docs/DECISIONS.md); what follows from its answers is stated, and which bytes came where the reader knows them.
-ghost use Rattle.std.specs.Prelude.{◌≡◌, ◌+◌, ◌<◌, ◌≤◌, IsTrue, drop, length, take};
+// A card image read from standard input, never more of it than its room holds, and the text of it that a program writes. No contract can
+// say which bytes the system brings (docs/DECISIONS.md); what follows from its answers is stated, and which bytes came and went where the
+// reader and the writer know them.
+ghost use Rattle.std.specs.Prelude.{◌<◌, ◌≤◌, IfOk, OnSome, length, take};
 ghost use Rattle.std.specs.Io.KnownBytes.{Consumes, IsAtEnd};
-ghost use Rattle.streams.specs.Streams.{IsReading};
-ghost use Rattle.image_input.specs.ImageInput.{ReadInto};
+ghost use Rattle.image_input.specs.ImageInput.{came, Answered};
 
 use std::io::{Read, Write};
-use streams::Reading;
+use std::rt::Env;
+use streams::Failure;
 
-// How many bytes were read, and the last reading.
-#[derive(Clone, Copy)]
-pub struct ImageRead {
+// The input was not read to its end: how many bytes came.
+#[derive(Clone, Copy, Debug, PartialEq, Eq)]
+pub struct Unfinished {
     pub len: usize,
-    pub last: Reading,
 }
 
-// Reads once, behind the first `have` bytes, which stay.
-fn read_more<R: Read, E: Write>(
+// Reads until the input ends, a reading fails or the room is full; a line program answers what came instead, turn by turn. A proved loop
+// has to end, and nothing says that the input does: so the loop has a number of turns that no run uses up, and behind them the input has
+// not ended.
+pub fn read_image<R: Read, E: Write>(
     stdin: &mut R,
     stderr: &mut E,
     image: &mut [u8],
-    have: usize,
-) -> ImageRead
-    requires { have ≤ length image.old }
-    ensures len_value { (result.len ≡ have + result.last.count) × (result.len ≤ length image.old) × IsReading result.last }
-    ensures front_unchanged { take have image.new ≡ take have image.old }
-    ensures bytes { Consumes (R.remaining stdin.old) (R.remaining stdin.new) (take result.last.count (drop have image.new)) }
-    ensures end { IsTrue result.last.ended → have < length image.old → IsAtEnd (R.remaining stdin.new) }
+) -> Result<usize, Unfinished>
+    ensures fits { came result ≤ length image.old }
+    ensures bytes { Consumes (R.remaining stdin.old) (R.remaining stdin.new) (take (came result) image.new) }
+    ensures end { IfOk result (λ len. len < length image.old → IsAtEnd (R.remaining stdin.new)) }
 {
-    let reading = streams::read(stdin, stderr, &mut image[have..]);
-    ImageRead {
-        len: have + reading.count,
-        last: reading,
-    }
-}
-
-// Reads until the input ends, a reading fails or the room is full. A proved loop has to end, and nothing says that the input does: so
-// the loop has a number of turns that no run uses up; what follows it says that there is more to read.
-pub fn read_image<R: Read, E: Write>(stdin: &mut R, stderr: &mut E, image: &mut [u8]) -> ImageRead
-    ensures read { ReadInto (length image.old) result }
-    ensures bytes { Consumes (R.remaining stdin.old) (R.remaining stdin.new) (take result.len image.new) }
-    ensures end { IsTrue result.last.ended → result.len < length image.old → IsAtEnd (R.remaining stdin.new) }
-{
-    let mut have = 0;
-    for _turn in 0..u64::MAX {
-        let read = read_more(stdin, stderr, image, have);
-        let reading = read.last;
-        have = read.len;
-        if !reading.more | (have == image.len()) {
-            return ImageRead {
-                len: have,
-                last: reading,
-            };
+    let mut len = 0;
+    for _ in 0..u64::MAX {
+        if len == image.len() {
+            return Ok(len);
+        }
+        match streams::read(stdin, stderr, &mut image[len..]) {
+            Ok(0) => return Ok(len),
+            Ok(n) => len += n,
+            Err(Failure::Interrupted) => continue,
+            Err(Failure::Said) => return Err(Unfinished { len }),
         }
     }
-    let last = Reading {
-        got: 1,
-        interrupted: false,
-        count: 1,
-        ended: false,
-        more: true,
-    };
-    ImageRead { len: have, last }
+    Err(Unfinished { len })
+}
+
+// A program that makes a text of a card image and takes no arguments: reads the image, and writes the front of a room that the text was
+// put into. Some where all of that was written; what failed else was
+// said, and nobody asks for it. What stands past 1,119 bytes of an image changes nothing (`FirstBytes` and `Rewrites`,
+// field `enough`), and no text of one has more than 4,096 characters.
+pub fn answer<V: Env, R: Read, W: Write, E: Write, F: FnOnce(&[u8], &mut [u8]) -> usize>(
+    rt: &V,
+    stdin: &mut R,
+    stdout: &mut W,
+    stderr: &mut E,
+    usage: &[u8],
+    put_text: F,
+) -> Option<()>
+    requires { F.IsAlwaysCallable put_text }
+    ensures { OnSome result (Answered F.FnOnce put_text (R.remaining stdin.old) (R.remaining stdin.new) (W.contents stdout.old) (W.contents stdout.new)) }
+{
+    streams::arguments_given(rt, stderr, usage).ok()?;
+    let mut image = [0u8; 1119];
+    let len = read_image(stdin, stderr, &mut image).ok()?;
+    let mut text = [0u8; 4096];
+    let end = put_text(&image[..len], &mut text);
+    let outcome = streams::write_all(stdout, text.get(..end).unwrap_or(&text));
+    streams::written_or_said(stderr, outcome).ok()
 }

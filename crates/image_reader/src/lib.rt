@@ -1,89 +1,58 @@
 #![tactic(auto)]
 
-// A card image read byte by byte. A reader holds the image and a position in it; `byte_from` and `place_from`, which take a plain
-// slice, do the work.
-ghost use Rattle.std.specs.Prelude.{◌≡◌, ℕ, take, drop};
-ghost use Rattle.octets.specs.Octets.{Bytes};
-ghost use Rattle.image_reader.specs.Reading.{standing, next_at, place_after, reader_at, reader_after};
+// A card image read byte by byte. A reader holds the image and a position in it; `byte_at`, which takes a plain slice, does the
+// work. A contract sees a reader as the bytes that are left.
+ghost use Rattle.std.specs.Prelude.{◌≡◌, ℕ, List, drop, slice_get};
+ghost use Rattle.std.specs.Iterator.{YieldsFirst, item_count};
 
-#[derive(Clone, Copy)]
-struct Reader<'a> {
+use std::marker::Model;
+
+#[derive(Drop)]
+pub struct Reader<'a> {
     image: &'a [u8],
     at: usize,
 }
 
-// What stands at a position; `standing` says what each case is.
-#[derive(Clone, Copy)]
-pub enum NextByte {
-    Byte(u8),
-    End,
+impl<'a> Model for Reader<'a> {
+    ghost Value = { List ℕ };
+
+    ghost view = { λ r. drop r.at r.image.now };
 }
 
-// What stands at a position, and the place after it.
-#[derive(Clone, Copy)]
-pub struct Found {
-    pub next: NextByte,
-    pub place: usize,
-}
-
-// The work: what stands at a position of an image.
-fn byte_from(image: &[u8], at: usize) -> NextByte
-    ensures { result ≡ next_at image.now at }
+// The byte at a position, if the image has one there.
+fn byte_at(image: &[u8], at: usize) -> Option<u8>
+    ensures { result ≡ slice_get image.now at }
 {
-    if at < image.len() {
-        return NextByte::Byte(image[at]);
+    image.get(at).copied()
+}
+
+impl<'a> Reader<'a> {
+    // A reader at the front of an image.
+    pub fn new(image: &'a [u8]) -> Reader<'a>
+        ensures { result ≡ image.now }
+    {
+        Reader { image, at: 0 }
     }
-    NextByte::End
-}
 
-// The place after the byte at a position; at the end the place stays.
-fn place_from(image: &[u8], at: usize) -> usize
-    ensures { result ≡ place_after image.now at }
-{
-    if image.len() <= at {
-        return at;
-    }
-    at + 1
-}
-
-// A reader of an image, at a position.
-fn new<'a>(image: &'a [u8], at: usize) -> Reader<'a>
-    ensures { result ≡ reader_at image.entry at }
-{
-    Reader { image, at }
-}
-
-// The next byte, or the end.
-fn next<'a>(r: Reader<'a>) -> NextByte
-    ensures { result ≡ next_at r.entry.image.now r.entry.at }
-{
-    byte_from(r.image, r.at)
-}
-
-// The reader after its next byte.
-fn after<'a>(r: Reader<'a>) -> Reader<'a>
-    ensures { result ≡ reader_after r.entry }
-{
-    Reader {
-        image: r.image,
-        at: place_from(r.image, r.at),
+    // A reader of an image at a position; past the end nothing is left.
+    pub fn at(image: &'a [u8], at: usize) -> Reader<'a>
+        ensures { result ≡ drop at image.now }
+    {
+        Reader { image, at }
     }
 }
 
-// Where a reader stands.
-fn place<'a>(r: Reader<'a>) -> usize
-    ensures { result ≡ r.entry.at }
-{
-    r.at
-}
+impl<'a> Iterator for Reader<'a> {
+    type Item = u8;
 
-// What a reader of an image finds at a position, and where it stands afterwards.
-pub fn read_at(image: &[u8], at: usize) -> Found
-    ensures { ◌≡◌ {A = Bytes × ℕ} (standing result.next, result.place) (take 1 (drop at image.now), place_after image.now at) }
-{
-    let r = new(image, at);
-    Found {
-        next: next(r),
-        place: place(after(r)),
+    ghost next_gives = { YieldsFirst (λ left. left) };
+
+    ghost remaining = { item_count (λ left. left) };
+
+    // The next byte, and the reader behind it; at the end nothing.
+    fn next(&mut self) -> Option<u8> {
+        let byte = byte_at(self.image, self.at)?;
+        self.at += 1;
+        Some(byte)
     }
 }

@@ -8,10 +8,6 @@ use Rattle.rules.specs.declared.Record.{Record}
 use Rattle.rules.specs.Files.{no_record}
 use Rattle.rules.specs.Writer.{record_image, records_image}
 
-pub none_written : [] ≡ records_image []
-unfolding records_image
-none_written = refl
-
 records_append : (a b : List Record) → records_image (a ++ b) ≡ records_image a ++ records_image b
 unfolding records_image
 records_append [] b = refl

@@ -1,169 +1,127 @@
 #![tactic(auto)]
 
-// The call write: a card's image, section by section as load reads it. Each private function answers the place behind what it wrote.
-ghost use Rattle.std.specs.Prelude.{◌≡◌, [], ◌∷◌, ◌≤◌, length, take};
+// The call write: a card's image, section by section as load reads it.
+ghost use Rattle.std.specs.Prelude.{◌≡◌, ◌∷◌, length, take};
 ghost use Rattle.octets.specs.Octets.{Bytes};
 ghost use Rattle.writing.specs.Puts.{Put};
 ghost use Rattle.rules.specs.Numbers.{Wrote, wrote_of};
-ghost use Rattle.rules.specs.Writer.{code_image, codes_image, keys_among, keys_on, key_bytes, keys_image, references_image};
+ghost use Rattle.rules.specs.Writer.{code_image, codes_image, keys_on, keys_image, references_image};
 ghost use Rattle.rules.specs.Writer.{record_image, personal_image, counts_image, image_of, write};
+ghost use Rattle.pages.specs.Pages.{Written};
 
-use rules::{Card, Code, Record, Refusal, WriteResult};
-
-// One byte.
-fn put_byte(buffer: &mut [u8], at: usize, byte: u8) -> usize
-    ensures { Put buffer.old at (byte ∷ []) buffer.new result }
-{
-    let one = [byte];
-    writing::put(buffer, at, &one)
-}
-
-// A length, and as many of the bytes.
-fn put_counted(buffer: &mut [u8], at: usize, len: u8, bytes: &[u8]) -> usize
-    ensures { Put buffer.old at (len ∷ take len bytes.now) buffer.new result }
-{
-    let start = put_byte(buffer, at, len);
-    writing::put(buffer, start, octets::part(bytes, 0, numbers::wide(len)))
-}
-
-// A code: its length, its digits, its tries.
-fn put_code(buffer: &mut [u8], at: usize, code: Code) -> usize
-    ensures { Put buffer.old at (code_image code) buffer.new result }
-{
-    let digits = code.digits;
-    let last = put_counted(buffer, at, code.len, &digits);
-    put_byte(buffer, last, code.tries)
-}
-
-// The codes: PUK, PIN1, PIN2.
-fn put_codes(buffer: &mut [u8], at: usize, codes: [Code; 3]) -> usize
-    ensures { Put buffer.old at (codes_image codes) buffer.new result }
-{
-    let puk = put_byte(buffer, at, 3);
-    let pin1 = put_code(buffer, puk, card_codes::code_of(codes, Code::PUK));
-    let pin2 = put_code(buffer, pin1, card_codes::code_of(codes, Code::PIN1));
-    put_code(buffer, pin2, card_codes::code_of(codes, Code::PIN2))
-}
-
-// 1 for a key that is on the card, else 0.
-fn one_if_present(keys: [bool; 4], key: u16) -> u8
-    ensures { (result ≡ length (keys_among keys (key ∷ []))) × (result ≤ 1) }
-{
-    if keys::present(keys, key) {
-        return 1;
-    }
-    0
-}
+use pages::Page;
+use rules::{Card, Code, Record, Refusal};
 
 // How many keys are on the card.
+#[tactic(auto, using(crate::proofs::Keys::marks_counted))]
 fn key_count(keys: [bool; 4]) -> u8
     ensures { result ≡ length (keys_on keys) }
 {
-    let first = one_if_present(keys, 0x0100);
-    let second = one_if_present(keys, 0x0200);
-    let third = one_if_present(keys, 0x1100);
-    let fourth = one_if_present(keys, 0x1200);
-    first + second + third + fourth
+    keys.iter().filter(|on| **on).count() as u8
 }
 
-// The number of a key that is on the card; else nothing.
-fn put_key(buffer: &mut [u8], at: usize, keys: [bool; 4], key: u16) -> usize
-    ensures { Put buffer.old at (key_bytes (keys_among keys (key ∷ []))) buffer.new result }
+// A length, and as many of the bytes.
+fn put_counted(page: &mut Page, len: u8, bytes: &[u8])
+    ensures { Written page.old (len ∷ take len bytes.now) page.new }
 {
-    if keys::present(keys, key) {
-        let bytes = [numbers::high(key), numbers::low(key)];
-        return writing::put(buffer, at, &bytes);
-    }
-    writing::put(buffer, at, b"")
+    page.put(&[len]);
+    page.put(octets::part(bytes, 0, usize::from(len)));
 }
 
-// Two keys, as far as they are on the card.
-fn put_two_keys(buffer: &mut [u8], at: usize, keys: [bool; 4], first: u16, second: u16) -> usize
-    ensures { Put buffer.old at (key_bytes (keys_among keys (first ∷ second ∷ []))) buffer.new result }
+// A code: its length, its digits, its tries.
+fn put_code(page: &mut Page, code: &Code)
+    ensures { Written page.old (code_image code.now) page.new }
 {
-    let next = put_key(buffer, at, keys, first);
-    put_key(buffer, next, keys, second)
+    put_counted(page, code.len, &code.digits);
+    page.put(&[code.tries]);
+}
+
+// The codes: PUK, PIN1, PIN2.
+fn put_codes(page: &mut Page, codes: &[Code; 3])
+    ensures { Written page.old (codes_image codes.now) page.new }
+{
+    page.put(&[3]);
+    put_code(page, &codes[Code::PUK]);
+    put_code(page, &codes[Code::PIN1]);
+    put_code(page, &codes[Code::PIN2]);
 }
 
 // The keys: how many there are, and their numbers.
-fn put_keys(buffer: &mut [u8], at: usize, keys: [bool; 4]) -> usize
-    ensures { Put buffer.old at (keys_image keys) buffer.new result }
+fn put_keys(page: &mut Page, keys: [bool; 4])
+    ensures { Written page.old (keys_image keys) page.new }
 {
-    let signature = put_byte(buffer, at, key_count(keys));
-    let authentication = put_two_keys(buffer, signature, keys, 0x0100, 0x0200);
-    put_two_keys(buffer, authentication, keys, 0x1100, 0x1200)
+    page.put(&[key_count(keys)]);
+    for key in [0x0100u16, 0x0200, 0x1100, 0x1200] {
+        if keys::present(keys, key) {
+            page.put(&key.to_be_bytes());
+        }
+    }
 }
 
 // The record of 0033h.
-fn put_references(buffer: &mut [u8], at: usize, references: [u8; 21]) -> usize
-    ensures { Put buffer.old at (references_image references) buffer.new result }
+fn put_references(page: &mut Page, references: &[u8; 21])
+    ensures { Written page.old (references_image references.now) page.new }
 {
-    let start = put_byte(buffer, at, 21);
-    writing::put(buffer, start, &references)
+    page.put(&[21]);
+    page.put(references);
 }
 
 // A personal record: its length, its bytes.
-fn put_record(buffer: &mut [u8], at: usize, personal: Record) -> usize
-    ensures { Put buffer.old at (record_image personal) buffer.new result }
+#[tactic(auto, unfolding(rules::specs::Writer::record_image))]
+fn put_record(page: &mut Page, personal: &Record)
+    ensures { Written page.old (record_image personal.now) page.new }
 {
-    let bytes = personal.bytes;
-    put_counted(buffer, at, personal.len, &bytes)
+    put_counted(page, personal.len, &personal.bytes);
 }
 
 // The personal records, after their count.
-fn put_personal(buffer: &mut [u8], at: usize, personal: [Record; 16]) -> usize
-    ensures { Put buffer.old at (personal_image personal) buffer.new result }
+fn put_personal(page: &mut Page, personal: &[Record; 16])
+    ensures { Written page.old (personal_image personal.now) page.new }
 {
-    let mut end = put_byte(buffer, at, 16);
-    let mut i = 0;
-    while i < 16 {
-        let one = personal[i];
-        end = put_record(buffer, end, one);
-        i += 1;
+    page.put(&[16]);
+    for record in personal {
+        put_record(page, record);
     }
-    end
 }
 
 // The unblocking counts, after their count; nothing where neither has a limit.
-fn put_counts(buffer: &mut [u8], at: usize, counts: [u8; 2]) -> usize
-    ensures { Put buffer.old at (counts_image counts) buffer.new result }
+#[tactic(auto, unfolding(rules::specs::Writer::counts_image))]
+fn put_counts(page: &mut Page, counts: [u8; 2])
+    ensures { Written page.old (counts_image counts) page.new }
 {
-    let pin1 = card_codes::count_of(counts, Code::PIN1);
-    let pin2 = card_codes::count_of(counts, Code::PIN2);
+    let [pin1, pin2] = counts;
     if (pin1 == Code::NO_LIMIT) & (pin2 == Code::NO_LIMIT) {
-        return writing::put(buffer, at, b"");
+        // The call stays: only behind a `put` is the place known to lie within the room.
+        return page.put(b"");
     }
-    let section = [2, pin1, pin2];
-    writing::put(buffer, at, &section)
+    page.put(&[2, pin1, pin2]);
 }
 
-// The sections, one behind the other.
-fn put_image(buffer: &mut [u8], card: Card) -> usize
-    ensures { Put buffer.old 0 (image_of card) buffer.new result }
+// The sections, one behind the other, from the front of a buffer on; the place behind them.
+fn put_image(buffer: &mut [u8], card: &Card) -> usize
+    ensures { Put buffer.old 0 (image_of card.now) buffer.new result }
 {
-    let codes = card.codes;
-    let counts = card.counts;
-    let profile = card.profile;
-    let keys = profile.keys;
-    let references = profile.references;
-    let personal = profile.personal;
-    let after_codes = put_codes(buffer, 0, codes);
-    let after_keys = put_keys(buffer, after_codes, keys);
-    let after_references = put_references(buffer, after_keys, references);
-    let after_personal = put_personal(buffer, after_references, personal);
-    put_counts(buffer, after_personal, counts)
+    let mut page = Page {
+        room: buffer,
+        at: 0,
+    };
+    put_codes(&mut page, &card.codes);
+    put_keys(&mut page, card.profile.keys);
+    put_references(&mut page, &card.profile.references);
+    put_personal(&mut page, &card.profile.personal);
+    put_counts(&mut page, card.counts);
+    page.at
 }
 
 // Writes the image of a good card to the front of a buffer of at least 1,118 bytes.
-pub fn write(card: Card, buffer: &mut [u8]) -> WriteResult
-    ensures { ◌≡◌ {A = Wrote × Bytes} (wrote_of result, buffer.new) (write card buffer.old) }
+pub fn write(card: &Card, buffer: &mut [u8]) -> Result<usize, Refusal>
+    ensures { ◌≡◌ {A = Wrote × Bytes} (wrote_of result, buffer.new) (write card.now buffer.old) }
 {
     if !good_state::good(card) {
-        return WriteResult::NotWritten(Refusal::BadState);
+        return Err(Refusal::BadState);
     }
     if buffer.len() < 1118 {
-        return WriteResult::NotWritten(Refusal::ShortBuffer);
+        return Err(Refusal::ShortBuffer);
     }
-    let len = put_image(buffer, card);
-    WriteResult::Written(len)
+    Ok(put_image(buffer, card))
 }

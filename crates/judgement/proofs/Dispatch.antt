@@ -3,10 +3,9 @@ use mathlib.Core.Path.{◌≡◌}
 use mathlib.Core.Bool.{true, false, not}
 use Rattle.octets.specs.Octets.{Bytes}
 use Rattle.rules.specs.declared.Card.{Card}
+use Rattle.std.specs.Prelude.{Option, Some, None}
 use Rattle.rules.specs.declared.Command.{Command}
 use Rattle.rules.specs.declared.Header.{Header}
-use Rattle.rules.specs.declared.Named.{Named}
-use Rattle.rules.specs.declared.Named.TheVariants.{Is, Nothing}
 use Rattle.rules.specs.Numbers.{Naming, naming}
 use Rattle.rules.specs.Answers.{Step}
 use Rattle.rules.specs.Judgement.{
@@ -27,11 +26,11 @@ module _ (c : Card) (h : Header) (d authentication signature : Bytes) where
   abbrev named : Naming → Step
   named n = judge_named n c h d authentication signature
 
-  pub unnamed : {n : Named} → n ≡ Nothing → refusal c 0x6A86 ≡ named (naming n)
+  pub unnamed : {n : Option Command} → n ≡ None → refusal c 0x6A86 ≡ named (naming n)
   unfolding judge_named
   unnamed e = simp e
 
-  module _ {n : Named} (x : Command) (is : n ≡ Is x) where
+  module _ {n : Option Command} (x : Command) (is : n ≡ Some x) where
     pub lengths_refused : not (lengths x h) ≡ true → refusal c 0x6700 ≡ named (naming n)
     unfolding judge_named
     lengths_refused e = simp (is, e)

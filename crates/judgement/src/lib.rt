@@ -1,6 +1,7 @@
 #![tactic(auto)]
 
-// The order of judgement for a command whose length form is right: steps 2 to 7.
+// The order of judgement for a command whose length form is right: steps 2 to 7. Header, data and the two certificates go on as they
+// came, since the rules' functions take them so; the certificates are lent to the card as two slices (document 01).
 ghost use Rattle.std.specs.Prelude.{◌≡◌, take};
 ghost use Rattle.rules.specs.Numbers.{naming};
 ghost use Rattle.rules.specs.Answers.{in_codes};
@@ -10,12 +11,12 @@ ghost use Rattle.apdu.specs.Reach.{le_in_reach};
 ghost use Rattle.steps.specs.Steps.{step_output_for};
 ghost use Rattle.judgement.specs.Admitted.{Sized, Admitted};
 
-use rules::{Card, Code, Command, Header, Named, Session};
+use rules::{Card, Code, Command, Header, Session};
 use steps::StepOutput;
 
 // A refusal by status word, with the held answer and the chain dropped.
-pub fn refuse(card: Card, sw: u16) -> StepOutput
-    ensures { result ≡ step_output_for (refusal card sw) }
+pub fn refuse(card: &Card, sw: u16) -> StepOutput
+    ensures { result ≡ step_output_for (refusal card.now sw) }
 {
     let codes = card.codes;
     let counts = card.counts;
@@ -35,14 +36,14 @@ fn reset_retry(codes: [Code; 3], counts: [u8; 2], s: Session, h: Header, d: &[u8
 // Step 7: the own rules of each command.
 fn own_rules<'a>(
     command: Command,
-    card: Card,
+    card: &Card,
     h: Header,
     d: &'a [u8],
     authentication: &'a [u8],
     signature: &'a [u8],
 ) -> StepOutput
     requires { Admitted command h d.now }
-    ensures { result ≡ step_output_for (own_rules command card h d.now authentication.now signature.now) }
+    ensures { result ≡ step_output_for (own_rules command card.now h d.now authentication.now signature.now) }
 {
     let codes = card.codes;
     let counts = card.counts;
@@ -96,17 +97,17 @@ fn own_rules<'a>(
 
 // Steps 5 to 7, of what the header names.
 fn judge_named<'a>(
-    named: Named,
-    card: Card,
+    named: Option<Command>,
+    card: &Card,
     h: Header,
     d: &'a [u8],
     authentication: &'a [u8],
     signature: &'a [u8],
 ) -> StepOutput
     requires { Sized h d.now }
-    ensures { result ≡ step_output_for (judge_named (naming named) card h d.now authentication.now signature.now) }
+    ensures { result ≡ step_output_for (judge_named (naming named) card.now h d.now authentication.now signature.now) }
 {
-    let Named::Is(command) = named else {
+    let Some(command) = named else {
         return refuse(card, 0x6A86);
     };
     if !headers::good_lengths(command, h) {
@@ -117,14 +118,14 @@ fn judge_named<'a>(
 
 // Steps 2 to 7.
 fn judge_header<'a>(
-    card: Card,
+    card: &Card,
     h: Header,
     d: &'a [u8],
     authentication: &'a [u8],
     signature: &'a [u8],
 ) -> StepOutput
     requires { Sized h d.now }
-    ensures { result ≡ step_output_for (judge_header card h d.now authentication.now signature.now) }
+    ensures { result ≡ step_output_for (judge_header card.now h d.now authentication.now signature.now) }
 {
     if !headers::known_class(h) {
         return refuse(card, 0x6E00);
@@ -140,13 +141,13 @@ fn judge_header<'a>(
 
 // Steps 2 to 7, of a header with no more than 256 as Le and of as much of the data as it says.
 pub fn judge<'a>(
-    card: Card,
+    card: &Card,
     header: Header,
     body: &'a [u8],
     authentication: &'a [u8],
     signature: &'a [u8],
 ) -> StepOutput
-    ensures { result ≡ step_output_for (judge_header card (le_in_reach header) (take header.lc body.now) authentication.now signature.now) }
+    ensures { result ≡ step_output_for (judge_header card.now (le_in_reach header) (take header.lc body.now) authentication.now signature.now) }
 {
     let lc = header.lc;
     let d = octets::part(body, 0, lc);

@@ -1,3 +1,1 @@
-pub mod Choices
-pub mod Ciphers
-pub mod Jobs
+pub mod Blocks

@@ -3,41 +3,54 @@
 // The line programs: standard input read, answered and written to standard output.
 pub mod certificates;
 
-ghost use Rattle.std.specs.Prelude.{◌≡◌, ◌*◌, ◌<◌, ◌≤◌, ◌&&◌, IsTrue, length, take};
-ghost use Rattle.std.specs.Io.KnownBytes.{Appends, Consumes, IsAtEnd};
+ghost use Rattle.std.specs.Prelude.{◌*◌, ◌<◌, ◌≤◌, IfErr, IfOk, length, take};
 ghost use Rattle.transcripts.specs.Transcript.{finished, run, most_text};
-ghost use Rattle.transcripts.specs.Consoles.{program_of, Holds, Reads};
-ghost use Rattle.streams.specs.Streams.{AppendsFront, IsReading, Moved};
-ghost use Rattle.line_programs.specs.Programs.{SomeRead, RanFrom, Ran};
+ghost use Rattle.transcripts.specs.Consoles.{program_of, Holds};
+ghost use Rattle.line_programs.specs.Programs.{LendsBytes, Written, SomeRead, RanFrom, Ran};
 
+use certificates::{AUTHENTICATION, SIGNATURE};
 use requests::Dialect;
 use std::io::{Read, Write};
-use streams::Reading;
-use transcripts::{Console, Progress};
+use std::rt::Env;
+use streams::{Failure, Given};
+use transcripts::Console;
 
-// One more reading: what came, the program after it, whether all of its output was written, and whether to go on.
-#[derive(Clone, Copy)]
-pub struct Turn {
-    pub reading: Reading,
-    pub progress: Progress,
-    pub sent: bool,
-    pub more: bool,
+// Why a line program stopped before all was read, answered and written: a reading failed, and what came before is answered; an answer
+// was not written whole; or that of the line which the end of the input left open was not.
+#[derive(Clone, Copy, Debug, PartialEq, Eq)]
+pub enum Stop {
+    NotRead,
+    NotWritten,
+    EndNotWritten,
 }
 
-// Writes the front of the output, and answers whether all of it was written.
-fn written<W: Write, E: Write>(stdout: &mut W, stderr: &mut E, output: &[u8], n: usize) -> bool
-    ensures front { AppendsFront (W.contents stdout.old) (W.contents stdout.new) (take n output.now) }
-    ensures all { IsTrue result → Appends (W.contents stdout.old) (W.contents stdout.new) (take n output.now) }
+// The program where it stopped, and why it did before the end.
+#[derive(Clone, Copy)]
+pub struct Stopped {
+    pub console: Console,
+    pub outcome: Result<(), Stop>,
+}
+
+// Writes the front of the output; where that fails, it is said. The three streams are parameters of their own, here and below, and no
+// struct: what a function is not given it leaves as it was, and no clause has to say so.
+fn written<W: Write, E: Write>(
+    stdout: &mut W,
+    stderr: &mut E,
+    output: &[u8],
+    n: usize,
+) -> Result<(), Failure>
+    ensures { Written (take n output.now) (W.contents stdout.old) (W.contents stdout.new) result }
 {
     let outcome = streams::write_all(stdout, octets::part(output, 0, n));
     streams::written_or_said(stderr, outcome)
 }
 
 // How many bytes a program reads at once. Each gives at most 518 characters, or 2,238 of the stand-in (`ShortOutput`), so that 524,288
-// hold all.
+// hold all. No method of Dialect, since its clause speaks of the transcript's text, above that crate.
 fn at_once(dialect: Dialect) -> usize
     ensures fits { most_text dialect * result ≤ 524288 }
     ensures some { 0 < result }
+    ensures room { result ≤ 1006 }
 {
     match dialect {
         Dialect::Transcript => 1006,
@@ -45,240 +58,143 @@ fn at_once(dialect: Dialect) -> usize
     }
 }
 
-// Reads once, at most so many bytes, to the front of the input.
-fn read_within<R: Read, E: Write>(
-    stdin: &mut R,
-    stderr: &mut E,
-    input: &mut [u8],
-    most: usize,
-) -> Reading
-    ensures reading { IsReading result × Moved most result.got }
-    ensures bytes { Consumes (R.remaining stdin.old) (R.remaining stdin.new) (take result.count input.new) }
-    ensures end { IsTrue result.ended → 0 < most → 0 < length input.old → IsAtEnd (R.remaining stdin.new) }
-{
-    if most < input.len() {
-        return streams::read(stdin, stderr, &mut input[..most]);
-    }
-    streams::read(stdin, stderr, input)
-}
-
-// Reads once, and answers what came.
-fn read_some<R: Read, W: Write, E: Write>(
+// Answers some of the input. That the certificates are bytes and that the output has room is asked here and below, and no type's
+// invariant, since the functions of `transcripts` take every console and every output.
+fn answer_some<W: Write, E: Write>(
     dialect: Dialect,
-    console: Console,
-    stdin: &mut R,
+    console: &mut Console,
+    input: &[u8],
     stdout: &mut W,
     stderr: &mut E,
-    input: &mut [u8; 1006],
-    line: &mut [u8; 4097],
-    authentication: &mut [u8; 2048],
-    signature: &mut [u8; 2048],
     output: &mut [u8],
-) -> Turn
-    ensures reading { IsReading result.reading }
-    ensures bytes { Consumes (R.remaining stdin.old) (R.remaining stdin.new) (take result.reading.count input.new) }
-    ensures end { IsTrue result.reading.ended → IsAtEnd (R.remaining stdin.new) }
-    ensures reads { Reads (run dialect (program_of dialect console line.old authentication.old signature.old) (take result.reading.count input.new)) output.old line.new authentication.new signature.new output.new result.progress }
-    ensures front { 524288 ≤ length output.old → AppendsFront (W.contents stdout.old) (W.contents stdout.new) (run dialect (program_of dialect console line.old authentication.old signature.old) (take result.reading.count input.new)).text }
-    ensures all { 524288 ≤ length output.old → IsTrue result.sent → Appends (W.contents stdout.old) (W.contents stdout.new) (run dialect (program_of dialect console line.old authentication.old signature.old) (take result.reading.count input.new)).text }
-    ensures more { IsTrue result.more → IsTrue result.sent }
+) -> Result<(), Failure>
+    requires bytes { LendsBytes (program_of dialect console.old) }
+    requires few { most_text dialect * length input.now ≤ 524288 }
+    requires room { 524288 ≤ length output.old }
+    ensures held { Holds (run dialect (program_of dialect console.old) input.now).program console.new }
+    ensures written { Written (run dialect (program_of dialect console.old) input.now).text (W.contents stdout.old) (W.contents stdout.new) result }
 {
-    let reading = read_within(stdin, stderr, input, at_once(dialect));
-    let progress = transcripts::read(
-        dialect,
-        console,
-        octets::part(input, 0, reading.count),
-        line,
-        authentication,
-        signature,
-        output,
-    );
-    let sent = written(stdout, stderr, output, progress.written);
-    Turn {
-        reading,
-        progress,
-        sent,
-        more: reading.more & sent,
-    }
+    let n = transcripts::read(dialect, console, input, output);
+    written(stdout, stderr, output, n)
 }
 
-// The program where reading stopped, the last reading, and whether all output was written.
-#[derive(Clone, Copy)]
-pub struct Stopped {
-    pub console: Console,
-    pub last: Reading,
-    pub sent: bool,
+// Answers a line that the end of the input left open: two lines, as above, of which one is another call.
+fn finish<W: Write, E: Write>(
+    dialect: Dialect,
+    console: &mut Console,
+    stdout: &mut W,
+    stderr: &mut E,
+    output: &mut [u8],
+) -> Result<(), Failure>
+    requires bytes { LendsBytes (program_of dialect console.old) }
+    requires room { 524288 ≤ length output.old }
+    ensures held { Holds (finished dialect (program_of dialect console.old)).program console.new }
+    ensures written { Written (finished dialect (program_of dialect console.old)).text (W.contents stdout.old) (W.contents stdout.new) result }
+{
+    let n = transcripts::finish(dialect, console, output);
+    written(stdout, stderr, output, n)
 }
 
-// A proved loop has to end, and nothing says that the input does. So the loop has a number of turns that no run uses up; what follows it
-// says that there is more to read.
+// Answers the input up to its end. A proved loop has to end, and nothing says that the input does: so the loop has a number of turns that
+// no run uses up, and behind them there is more to read.
 fn read_all<R: Read, W: Write, E: Write>(
     dialect: Dialect,
-    console: Console,
+    console: &mut Console,
     stdin: &mut R,
     stdout: &mut W,
     stderr: &mut E,
-    input: &mut [u8; 1006],
-    line: &mut [u8; 4097],
-    authentication: &mut [u8; 2048],
-    signature: &mut [u8; 2048],
+    input: &mut [u8],
     output: &mut [u8],
-) -> Stopped
-    requires { Holds (program_of dialect console line.old authentication.old signature.old) line.old authentication.old signature.old console }
-    ensures { SomeRead dialect (program_of dialect console line.old authentication.old signature.old) line.new authentication.new signature.new (R.remaining stdin.old) (R.remaining stdin.new) (W.contents stdout.old) (W.contents stdout.new) (length output.old) result }
+) -> Result<(), Stop>
+    requires held { Holds (program_of dialect console.old) console.old }
+    requires bytes { LendsBytes (program_of dialect console.old) }
+    requires few { most_text dialect * length input.old ≤ 524288 }
+    requires some { 0 < length input.old }
+    requires room { 524288 ≤ length output.old }
+    ensures { SomeRead dialect (program_of dialect console.old) (R.remaining stdin.old) (R.remaining stdin.new) (W.contents stdout.old) (W.contents stdout.new) console.new result }
 {
-    let mut next = console;
-    for _turn in 0..u64::MAX {
-        let turn = read_some(
-            dialect,
-            next,
-            stdin,
-            stdout,
-            stderr,
-            input,
-            line,
-            authentication,
-            signature,
-            output,
-        );
-        let progress = turn.progress;
-        let reading = turn.reading;
-        next = progress.console;
-        if !turn.more {
-            return Stopped {
-                console: next,
-                last: reading,
-                sent: turn.sent,
-            };
+    for _ in 0..u64::MAX {
+        match streams::read(stdin, stderr, input) {
+            Ok(0) => return Ok(()),
+            Ok(n) => {
+                let sent = answer_some(dialect, console, &input[..n], stdout, stderr, output);
+                if sent.is_err() {
+                    return Err(Stop::NotWritten);
+                }
+            }
+            Err(Failure::Interrupted) => continue,
+            Err(Failure::Said) => return Err(Stop::NotRead),
         }
     }
-    let last = Reading {
-        got: 1,
-        interrupted: false,
-        count: 1,
-        ended: false,
-        more: true,
-    };
-    Stopped {
-        console: next,
-        last,
-        sent: true,
-    }
+    Err(Stop::NotRead)
 }
 
-// The end of the input answered: the program after it, and whether all of its output was written.
-#[derive(Clone, Copy)]
-pub struct LastLine {
-    pub progress: Progress,
-    pub sent: bool,
-}
-
-// Answers a line that the end of the input left open.
-fn answer_last<W: Write, E: Write>(
-    dialect: Dialect,
-    console: Console,
-    stdout: &mut W,
-    stderr: &mut E,
-    line: &mut [u8; 4097],
-    authentication: &mut [u8; 2048],
-    signature: &mut [u8; 2048],
-    output: &mut [u8; 524288],
-) -> LastLine
-    ensures reads { Reads (finished dialect (program_of dialect console line.old authentication.old signature.old)) output.old line.new authentication.new signature.new output.new result.progress }
-    ensures front { AppendsFront (W.contents stdout.old) (W.contents stdout.new) (finished dialect (program_of dialect console line.old authentication.old signature.old)).text }
-    ensures all { IsTrue result.sent → Appends (W.contents stdout.old) (W.contents stdout.new) (finished dialect (program_of dialect console line.old authentication.old signature.old)).text }
-{
-    let progress = transcripts::finish(dialect, console, line, authentication, signature, output);
-    let sent = written(stdout, stderr, output, progress.written);
-    LastLine { progress, sent }
-}
-
-// Answers standard input from a program on, to where reading stops.
+// Answers standard input from a program on, to where it stops.
 fn answer_all<R: Read, W: Write, E: Write>(
     dialect: Dialect,
-    console: Console,
+    console: &mut Console,
     stdin: &mut R,
     stdout: &mut W,
     stderr: &mut E,
     input: &mut [u8; 1006],
-    line: &mut [u8; 4097],
-    authentication: &mut [u8; 2048],
-    signature: &mut [u8; 2048],
     output: &mut [u8; 524288],
-) -> Stopped
-    requires { Holds (program_of dialect console line.old authentication.old signature.old) line.old authentication.old signature.old console }
-    ensures { RanFrom dialect (program_of dialect console line.old authentication.old signature.old) (R.remaining stdin.old) (R.remaining stdin.new) (W.contents stdout.old) (W.contents stdout.new) result }
+) -> Result<(), Stop>
+    requires held { Holds (program_of dialect console.old) console.old }
+    requires bytes { LendsBytes (program_of dialect console.old) }
+    ensures { RanFrom dialect (program_of dialect console.old) (R.remaining stdin.old) (R.remaining stdin.new) (W.contents stdout.old) (W.contents stdout.new) console.new result }
 {
-    let stopped = read_all(
+    let most = at_once(dialect);
+    read_all(
         dialect,
         console,
         stdin,
         stdout,
         stderr,
-        input,
-        line,
-        authentication,
-        signature,
+        &mut input[..most],
         output,
-    );
-    let reading = stopped.last;
-    if !reading.ended {
-        return stopped;
-    }
-    let last = answer_last(
-        dialect,
-        stopped.console,
-        stdout,
-        stderr,
-        line,
-        authentication,
-        signature,
-        output,
-    );
-    let progress = last.progress;
-    let console = progress.console;
-    Stopped {
-        console,
-        last: reading,
-        sent: last.sent,
-    }
+    )?;
+    finish(dialect, console, stdout, stderr, output).map_err(|_| Stop::EndNotWritten)
 }
 
 // Answers standard input, from the sample card on, with the authentication certificate first and the signature certificate second
 // (of each at most 2,048 bytes).
-pub fn run<'a, R: Read, W: Write, E: Write>(
+pub fn run<R: Read, W: Write, E: Write>(
     dialect: Dialect,
     stdin: &mut R,
     stdout: &mut W,
     stderr: &mut E,
-    first: &'a [u8],
-    second: &'a [u8],
+    first: &[u8],
+    second: &[u8],
 ) -> Stopped
     ensures { Ran dialect (take 2048 first.now) (take 2048 second.now) (R.remaining stdin.old) (R.remaining stdin.new) (W.contents stdout.old) (W.contents stdout.new) result }
 {
+    let mut console = transcripts::begin(dialect, first, second);
     let mut input = [0u8; 1006];
-    let mut line = [0u8; 4097];
-    let mut authentication = [0u8; 2048];
-    let mut signature = [0u8; 2048];
     let mut output = [0u8; 524288];
-    let console = transcripts::begin(
+    let outcome = answer_all(
         dialect,
-        first,
-        second,
-        &mut line,
-        &mut authentication,
-        &mut signature,
-    );
-    answer_all(
-        dialect,
-        console,
+        &mut console,
         stdin,
         stdout,
         stderr,
         &mut input,
-        &mut line,
-        &mut authentication,
-        &mut signature,
         &mut output,
-    )
+    );
+    Stopped { console, outcome }
+}
+
+// A line program, which takes no arguments: answers standard input, with the two certificates of source document 003.
+pub fn answer<V: Env, R: Read, W: Write, E: Write>(
+    rt: &V,
+    stdin: &mut R,
+    stdout: &mut W,
+    stderr: &mut E,
+    usage: &[u8],
+    dialect: Dialect,
+) -> Result<Stopped, Given>
+    ensures given { IfErr result (λ given. 1 < given.count) }
+    ensures ran { IfOk result (Ran dialect (take 2048 AUTHENTICATION) (take 2048 SIGNATURE) (R.remaining stdin.old) (R.remaining stdin.new) (W.contents stdout.old) (W.contents stdout.new)) }
+{
+    streams::arguments_given(rt, stderr, usage)?;
+    Ok(run(dialect, stdin, stdout, stderr, &AUTHENTICATION, &SIGNATURE))
 }

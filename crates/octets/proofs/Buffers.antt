@@ -1,9 +1,8 @@
 -- Laws of places in a string or a list.
-use mathlib.Core.Path.{◌≡◌, refl, ap}
+use mathlib.Core.Path.{◌≡◌, refl}
 use mathlib.Core.Bool.{true}
 use mathlib.Core.List.{List, [], ◌∷◌}
-use Prim.Native.Nat.{ℕ, zero, suc, ◌≤◌, ◌<◌}
-use native.Mathlib.Nat.{not-suc-le-zero, le_of_suc-le-suc}
+use Prim.Native.Nat.{ℕ, zero, suc, ◌<◌}
 use native.Mathlib.Omega.{arith}
 use lib.Dec.{ltb}
 use lib.ListN.{length, get_or, set}
@@ -29,15 +28,3 @@ pub each_place : {A : Type 0} (P : ℕ → A → Type 0) (l : List A) (j : ℕ) 
 each_place P l j v d h p i q = either _ i j
     (λ e. rw e (rw (get_or-set_same l j v d h) p))
     (λ n. rw (get_or-set_other l j i v d n) q)
-
--- Past its end nothing of a list is replaced.
-pub set_past : {A : Type 0} (l : List A) (j : ℕ) (v : A) → length l ≤ j → set l j v ≡ l
-set_past [] j v h = refl
-set_past (x ∷ xs) zero v h = absurd (not-suc-le-zero h)
-set_past (x ∷ xs) (suc j) v h = ap (λ l. x ∷ l) (set_past xs j v (le_of_suc-le-suc h))
-
--- Inside a list it does not matter what stands past its end.
-pub place_inside : {A : Type 0} (l : List A) (j : ℕ) (d e : A) → j < length l → get_or l j d ≡ get_or l j e
-place_inside [] j d e h = absurd (not-suc-le-zero h)
-place_inside (x ∷ xs) zero d e h = refl
-place_inside (x ∷ xs) (suc j) d e h = place_inside xs j d e (le_of_suc-le-suc h)

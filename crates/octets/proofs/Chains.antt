@@ -30,19 +30,3 @@ module _ (n : ℕ) (d : Bytes) where
   -- A string read back from its room.
   pub filled_back : length d ≤ n → take n (take (length d) (filled n (take n d))) ≡ d
   filled_back h = rw (take_all n d h, take_filled n d h, take_all n d h)
-
--- The n bytes at the end of a string, in room of their own.
-pub filled_end : (n at : ℕ) (d : Bytes) → length d ≡ at + n → filled n (take n (take n (drop at d))) ≡ drop at d
-filled_end n at d e =
-    let size : length (drop at d) ≡ n = omega (arith, length-drop at d) in
-    rw (take_all n (drop at d) (omega arith)) (filled_exactly n (drop at d) size)
-
--- The first bytes of a string of n, and as much of another as fits behind them.
-module _ (n len : ℕ) (bytes : Bytes) (size : n ≡ length bytes) {front : Bytes} (e : front ≡ take len bytes) where
-  pub front_short : length front ≤ n
-  front_short = rw e (omega (arith, length-take len bytes))
-
-  pub front_then : (d : Bytes) {room both : Bytes} → room ≡ filled n (take n front) → both ≡ pasted room (length front) d
-      → both ≡ filled n (take n (take len bytes ++ d))
-  front_then d r b =
-      rw (b, r, take_all n front front_short, ← e) (filled_behind n front d front_short)

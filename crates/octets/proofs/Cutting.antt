@@ -15,14 +15,6 @@ use Rattle.octets.proofs.Strings.{take_rest, take_twice}
 pub uncut_first : (m n : ℕ) (b : Bytes) → n ≤ m → take m (take n b) ≡ take n b
 uncut_first m n b h = take_all m (take n b) (omega (arith, length-take n b))
 
--- The two sides of a place in a string of at most m bytes.
-module _ (m : ℕ) (b : Bytes) (h : length b ≤ m) (at : ℕ) where
-  pub uncut_front : take m (take at b) ≡ take at b
-  uncut_front = take_all m (take at b) (omega (arith, length-take at b))
-
-  pub uncut_rest : take m (take (length b) (drop at b)) ≡ drop at b
-  uncut_rest = rw (take_rest b at) (take_all m (drop at b) (omega (arith, length-drop at b)))
-
 -- What was cut to n bytes is not cut again, and is at most n bytes long.
 pub cut_again : (n : ℕ) (b d : Bytes) → b ≡ take n d → take n b ≡ b
 cut_again n b d e = ap (take n) e ∙ take_twice n d ∙ sym e

@@ -1,6 +1,5 @@
 pub mod Buffers
 pub mod Lists
-pub mod Loops
 pub mod Pasting
 pub mod Strings
 pub mod Tests
@@ -8,4 +7,4 @@ pub mod Words
 pub mod Parts
 pub mod Cutting
 pub mod Chains
-pub mod Filling
+pub mod Iterators

@@ -6,9 +6,10 @@ use native.Mathlib.Nat.{sub-zero, zero-sub, suc-sub-suc, zero-add, add_assoc}
 use native.Mathlib.Numerals.{add-one}
 use native.Mathlib.Omega.{arith, min_cases}
 use lib.Dec.{leb}
-use lib.ListN.{length, take, drop, set, replicate, length-append, length-take, length-drop, length-replicate, get_or-replicate, drop_of_length-le, take-append-drop}
-use lib.Seq.{take-nil, take_all, take_at, take-append_seam, take-append-add, take-append-le, drop-append-add, drop-append_seam, drop-drop, drop-cons, set_at, append_snoc, paste, paste-suc}
+use lib.ListN.{length, take, drop, set, replicate, length-append, length-take, length-drop, length-replicate, drop_of_length-le, take-append-drop}
+use lib.Seq.{take-nil, take_all, take_at, take-append_seam, take-append-add, take-append-le, drop-append-add, drop-append_seam, drop-drop, drop-cons, set_at, append_snoc, paste}
 use borrow.Author.Tests.{leb-true, leb-false}
+use borrow.Rule.Slice.PartMut.{put_mid}
 use Rattle.octets.specs.Octets.{Bytes, byte_at, blank, filled, pasted}
 use Rattle.octets.proofs.Tests.{by_test}
 
@@ -30,13 +31,6 @@ module _ (dst : Bytes) (at : ℕ) (src : Bytes) where
       min_cases (length src) (length dst - at) (paste dst at src n ≡ pasted dst at src)
       (λ h m. rw (e, m) (whole h))
       (λ h m. rw (e, m) (cut h))
-
--- A turn of the loop that writes one byte again and again.
-pub paste_byte : (dst : Bytes) (at n byte j : ℕ) → at + j < length dst → j < n
-    → set (paste dst at (replicate n byte) j) (at + j) byte ≡ paste dst at (replicate n byte) (suc j)
-paste_byte dst at n byte j h k =
-    let l : length (replicate n byte) ≡ n = length-replicate n byte in
-    rw (get_or-replicate n j byte 0 k) at (paste-suc dst at (replicate n byte) j 0 h (omega arith))
 
 pub zeros : (n : ℕ) → replicate n 0 ≡ blank n
 unfolding blank
@@ -61,18 +55,6 @@ pasted_blank n s =
 
 pub filled_by : (n : ℕ) (s : Bytes) {room written : Bytes} → room ≡ blank n → written ≡ pasted room 0 s → written ≡ filled n (take n s)
 filled_by n s e w = w ∙ rw e (pasted_blank n s)
-
--- The n bytes from a place on, where there are fewer.
-module _ (s : Bytes) (from n : ℕ) where
-  pub part_none : length s < from → [] ≡ take n (drop from s)
-  part_none h =
-      let past : length s ≤ from = omega arith in
-      rw (drop_of_length-le s past, take-nil n)
-
-  pub part_rest : length s - from < n → take (length s - from) (drop from s) ≡ take n (drop from s)
-  part_rest h =
-      let left : length (drop from s) ≡ length s - from = length-drop from s in
-      rw (take_all (length s - from) (drop from s) (omega arith), take_all n (drop from s) (omega arith))
 
 -- A buffer written from its front, piece by piece: what was written, up to the place `at`, then the buffer's own bytes.
 module _ (buffer front : Bytes) (at : ℕ) (e : length front ≡ at) (next : ℕ) (room : next ≤ length buffer) where
@@ -147,6 +129,19 @@ module _ (d : Bytes) (at : ℕ) (s : Bytes) where
       let none : length d - at ≡ 0 = omega arith in
       let past : length d ≤ at + length s = omega arith in
       rw (take_all at d h, none, drop_of_length-le d past, append-nil d)
+
+-- As much of a string as fits, put in the place of the k bytes from index a on.
+pub pasted_part : (dst : Bytes) (at : ℕ) (src part : Bytes) (a k : ℕ) → a ≡ min at (length dst) → k ≡ min (length src) (length dst - a) → part ≡ take k src
+    → put_mid a k dst part ≡ pasted dst at src
+pasted_part dst at src part a k p q e =
+    min_cases at (length dst) (put_mid a k dst part ≡ pasted dst at src)
+    (λ h m.
+    let here : a ≡ at = p ∙ m in
+    rw (e, here, drop-drop k at dst, ← append_assoc (take at dst)) (paste_fitting dst at src k (omega arith)))
+    (λ h m.
+    let end : a ≡ length dst = p ∙ m in
+    let none : k ≡ 0 = omega arith in
+    rw (e, end, none, pasted_past dst at src h, take_all (length dst) dst (omega arith), drop_of_length-le dst {i = length dst} (omega arith), append-nil dst))
 
 -- Behind a front that stays.
 pasted_inner : (a b s : Bytes) (k : ℕ) → pasted (a ++ b) (length a + k) s ≡ a ++ pasted b k s

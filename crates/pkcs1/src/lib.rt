@@ -1,8 +1,9 @@
 #![tactic(auto)]
 
 // RSA block padding of RFC 8017, for 256-byte blocks. The key host is written in C and calls the two public functions, which pkcs1_c
-// exports.
-ghost use Rattle.std.specs.Prelude.{◌≡◌, ◌+◌, ◌≤◌, length, drop, ltb};
+// exports: for C a refusal is the number 0, and no Option.
+ghost use Rattle.std.specs.Prelude.{◌≡◌, ◌*◌, ◌≤◌, length, eqb};
+ghost use Rattle.std.specs.List.{list_any};
 ghost use Rattle.octets.specs.Octets.{pasted};
 ghost use Rattle.pkcs1.specs.Pkcs1.{pad, before_zero, strip};
 
@@ -18,8 +19,9 @@ const LEAST: usize = 8;
 // How many bytes are looked at together.
 const GROUP: usize = 8;
 
-// Copies into dst, from index `at` on, as much of src as fits. It goes by a local, since the compiler cannot tell dst and src apart:
-// of the two loops it makes one call of memmove, and the local is gone.
+// Copies into dst, from index `at` on, as much of src as fits. By a local, of which the compiler makes one call of memmove: copied
+// straight, padding is slower than plain Rust, since the compiler cannot tell dst and src apart.
+#[tactic(auto, using(octets::proofs::Pasting::take_pasted))]
 fn move_at(dst: &mut [u8], at: usize, src: &[u8])
     requires { length src.now ≤ 256 }
     ensures { dst.new ≡ pasted dst.old at src.now }
@@ -32,6 +34,7 @@ fn move_at(dst: &mut [u8], at: usize, src: &[u8])
 
 // Pads the message into the first 256 bytes of the buffer and returns 256; returns 0, with nothing written, where the message is
 // longer than 245 bytes or the buffer is shorter than a block.
+#[tactic(auto, using(std::proofs::lemmas::Grind::common_steps, crate::proofs::Steps::padding))]
 pub fn shoalpennant_pad(message: &[u8], buffer: &mut [u8]) -> usize
     ensures { (result, buffer.new) ≡ pad message.now buffer.old }
 {
@@ -50,60 +53,50 @@ pub fn shoalpennant_pad(message: &[u8], buffer: &mut [u8]) -> usize
     BLOCK
 }
 
-// Whether one of the 8 bytes of s from index `at` on is zero. It looks at all of them, so that the compiler compares them at once.
-fn zero_among(s: &[u8], at: usize) -> bool
-    requires { at + 8 ≤ length s.now }
-    ensures { result ≡ ltb (before_zero (drop at s.now)) 8 }
+// Whether one of the bytes of a group is zero. It looks at all of them, so that the compiler compares them at once.
+fn has_zero(group: &[u8; GROUP]) -> bool
+    ensures { result ≡ list_any (λ x. eqb x 0) group.now }
 {
-    let mut found = false;
-    let mut j = 0;
-    while j < GROUP {
-        found = found | (s[at + j] == 0);
-        j += 1;
-    }
-    found
+    group.iter().fold(false, |found, x| found | (*x == 0))
 }
 
-// Some of the bytes of s before its first zero: as many groups of 8 as have no zero.
+// How many groups at the front of s have no zero.
 fn groups_before_zero(s: &[u8]) -> usize
-    ensures { result ≤ before_zero s.now }
+    ensures { 8 * result ≤ before_zero s.now }
 {
-    let mut i = 0;
-    while GROUP <= s.len() - i {
-        if zero_among(s, i) {
-            return i;
-        }
-        i += GROUP;
-    }
-    i
+    let (groups, _) = s.as_chunks::<GROUP>();
+    groups.iter().take_while(|group| !has_zero(group)).count()
 }
 
 // How many bytes of s stand before its first zero; all of them where there is none.
+fn bytes_before_zero(s: &[u8]) -> usize
+    ensures { result ≡ before_zero s.now }
+{
+    s.iter().take_while(|x| **x != 0).count()
+}
+
+// The same, where groups with no zero are passed over first: byte by byte it takes up to five times as long.
+#[tactic(auto, using(crate::proofs::Steps::before_most, crate::proofs::Steps::passed, std::proofs::lemmas::Grind::common_steps))]
 fn before_zero(s: &[u8]) -> usize
     ensures { result ≡ before_zero s.now }
 {
-    let mut i = groups_before_zero(s);
-    while i < s.len() {
-        if s[i] == 0 {
-            return i;
-        }
-        i += 1;
-    }
-    i
+    let passed = GROUP * groups_before_zero(s);
+    passed + bytes_before_zero(&s[passed..])
 }
 
 // The index at which the message of a deciphered block starts, 11 to 256; 0 where the block is not one that stripping takes.
+#[tactic(auto, using(crate::proofs::Steps::before_most), unfolding(crate::specs::Pkcs1::strip, crate::specs::Pkcs1::enciphered))]
 pub fn shoalpennant_strip(block: &[u8]) -> usize
     ensures { result ≡ strip block.now }
 {
     if block.len() != BLOCK {
         return 0;
     }
-    if (block[0] != 0x00) | (block[1] != 0x02) {
+    if block[0] != 0x00 || block[1] != 0x02 {
         return 0;
     }
     let n = before_zero(&block[2..]);
-    if (LEAST <= n) & (n < BLOCK - 2) {
+    if LEAST <= n && n < BLOCK - 2 {
         n + 3
     } else {
         0

@@ -1,9 +1,9 @@
 #![tactic(auto)]
 
 // What a line of the two line programs asks for. Every function takes every input.
-ghost use Rattle.std.specs.Prelude.{◌≡◌, ◌-◌, ◌≤◌, min, take};
+ghost use Rattle.std.specs.Prelude.{◌≡◌, suc, min, take};
 ghost use Rattle.octets.specs.Octets.{Bytes};
-ghost use Rattle.requests.specs.Requests.{longest, stands_in, decimal, size_request, further_request, hex_request, request_of};
+ghost use Rattle.requests.specs.Requests.{longest, decimal, size_request, hex_request, request_of};
 ghost use Rattle.requests.specs.Meanings.{meant, room_after};
 
 // The two programs: document 01's transcript program, and the stand-in.
@@ -13,27 +13,28 @@ pub enum Dialect {
     StandIn,
 }
 
-// The greatest length of a line.
-fn longest(dialect: Dialect) -> usize
-    ensures { result ≡ longest dialect }
-{
-    match dialect {
-        Dialect::Transcript => 1024,
-        Dialect::StandIn => 4096,
+impl Dialect {
+    // The greatest length of a line.
+    fn longest(self) -> usize
+        ensures { result ≡ longest self }
+    {
+        match self {
+            Dialect::Transcript => 1024,
+            Dialect::StandIn => 4096,
+        }
+    }
+
+    // How many characters of a line tell that it is too long.
+    #[tactic(auto, using(crate::proofs::Requests::at_most))]
+    pub fn most(self) -> usize
+        ensures { result ≡ suc (longest self) }
+    {
+        self.longest() + 1
     }
 }
 
-// Whether the program is the stand-in.
-fn stands_in(dialect: Dialect) -> bool
-    ensures { result ≡ stands_in dialect }
-{
-    match dialect {
-        Dialect::Transcript => false,
-        Dialect::StandIn => true,
-    }
-}
-
-// What a line asks for; of bytes only how many there are.
+// What a line asks for; of bytes only how many there are: they stand in a room beside it, of
+// which the clause of `asked` could say nothing if a slice of it were lent on.
 #[derive(Clone, Copy)]
 pub enum Meaning {
     Reset,
@@ -47,40 +48,26 @@ pub enum Meaning {
     Other,
 }
 
-// The value of a digit.
-fn digit_value(c: u8) -> usize
-    ensures { (result ≡ c - 0x30) × (result ≤ 207) }
-{
-    if c < 0x30 {
-        return 0;
-    }
-    numbers::wide(c - 0x30)
-}
-
-// A decimal number, or 4,097 where it is greater than that.
+// A decimal number, or 4,097 where it is greater than that. `parse` would refuse one that is too great for its type.
 fn decimal(s: &[u8]) -> usize
     ensures { result ≡ min (decimal s.now) 4097 }
 {
-    let mut n = 0;
-    let mut i = 0;
-    while i < s.len() {
-        if 4096 < n {
-            return 4097;
-        }
-        n = n * 10 + digit_value(s[i]);
-        i += 1;
+    let mut n: usize = 0;
+    for c in s {
+        n = (n * 10 + usize::from(c.saturating_sub(b'0'))).min(4097);
     }
-    numbers::sum_within(0, n, 4097)
+    n
 }
 
 // The size of the answer buffer that decimal digits ask for.
+#[tactic(auto, unfolding(crate::specs::Requests::size_request, crate::specs::Requests::is_size))]
 fn size_asked(s: &[u8]) -> Meaning
     ensures { (room : Bytes) → meant result room ≡ size_request s.now }
 {
-    if (s.len() == 0) | !octets::all_digits(s) {
+    if s.is_empty() || !octets::all_digits(s) {
         return Meaning::Other;
     }
-    if (s.len() != 1) & (octets::byte_at(s, 0) == b'0') {
+    if s.len() != 1 && octets::byte_at(s, 0) == b'0' {
         return Meaning::Other;
     }
     let size = decimal(s);
@@ -90,60 +77,37 @@ fn size_asked(s: &[u8]) -> Meaning
     Meaning::Buffer(size)
 }
 
-// What the stand-in's own letters ask for, with n bytes.
-fn further_asked(letter: u8, n: usize) -> Meaning
-    ensures { (room : Bytes) → meant result room ≡ further_request letter (take n room) }
-{
-    if letter == b'L' {
-        return Meaning::Image(n);
-    }
-    if letter == b'A' {
-        return Meaning::Authentication(n);
-    }
-    if letter == b'S' {
-        return Meaning::Signature(n);
-    }
-    Meaning::Other
-}
-
-// What a letter asks for, with n bytes.
+// What a letter asks for, with n bytes: L, A and S in the stand-in alone.
+#[tactic(auto, unfolding(crate::specs::Requests::hex_request, crate::specs::Requests::further_request))]
 fn hex_asked(dialect: Dialect, letter: u8, n: usize) -> Meaning
     ensures { (room : Bytes) → meant result room ≡ hex_request dialect letter (take n room) }
 {
-    if letter == b'C' {
-        return Meaning::Command(n);
+    match (dialect, letter) {
+        (_, b'C') => Meaning::Command(n),
+        (_, b'D') => Meaning::Delivery(n),
+        (Dialect::StandIn, b'L') => Meaning::Image(n),
+        (Dialect::StandIn, b'A') => Meaning::Authentication(n),
+        (Dialect::StandIn, b'S') => Meaning::Signature(n),
+        _ => Meaning::Other,
     }
-    if letter == b'D' {
-        return Meaning::Delivery(n);
-    }
-    if !stands_in(dialect) {
-        return Meaning::Other;
-    }
-    further_asked(letter, n)
 }
 
 // What a line asks for. The bytes that its hex says stand at the front of the room.
+#[tactic(auto, unfolding(crate::specs::Requests::request_of, crate::specs::Meanings::room_after))]
 pub fn asked(dialect: Dialect, line: &[u8], room: &mut [u8; 2048]) -> Meaning
     ensures { (meant result room.new ≡ request_of dialect line.now) × (room.new ≡ room_after dialect line.now room.old) }
 {
-    if longest(dialect) < line.len() {
+    if dialect.longest() < line.len() {
         return Meaning::Other;
     }
-    if octets::equal(line, b"P") {
-        return Meaning::Reset;
+    match (dialect, line) {
+        (_, [b'P']) => Meaning::Reset,
+        (Dialect::StandIn, [b'I']) => Meaning::Saving,
+        (Dialect::StandIn, [b'B', digits @ ..]) => size_asked(digits),
+        (_, [letter, hex @ ..]) if hexadecimal::is_hex(hex) => {
+            let n = hexadecimal::bytes_of(hex, room);
+            hex_asked(dialect, *letter, n)
+        }
+        _ => Meaning::Other,
     }
-    let further = stands_in(dialect);
-    if further & octets::equal(line, b"I") {
-        return Meaning::Saving;
-    }
-    let letter = octets::byte_at(line, 0);
-    let rest = octets::part(line, 1, line.len());
-    if further & (letter == b'B') {
-        return size_asked(rest);
-    }
-    if !hexadecimal::is_hex(rest) {
-        return Meaning::Other;
-    }
-    let n = hexadecimal::bytes_of(rest, room);
-    hex_asked(dialect, letter, n)
 }

@@ -8,26 +8,24 @@ ghost use Rattle.rules.specs.State.{good};
 ghost use Rattle.rules.specs.Writer.{image_of};
 ghost use Rattle.rewriting.specs.Rewriting.{number_text, rewritten};
 
-use rules::{Card, Fault, LoadResult, WriteResult};
+use rules::{Card, Fault};
 
 // A load number and a line end.
 fn put_number(text: &mut [u8], fault: Fault) -> usize
     ensures { Put text.old 0 (number_text (fault_number fault)) text.new result }
 {
-    let n = faults::number(fault);
+    let n = u8::from(fault);
+    // By hand: std says nothing of the bytes that `write!` leaves in a slice, and `Put` names them.
     let line = [b'0' + n / 10, b'0' + n % 10, b'\n'];
     writing::put(text, 0, &line)
 }
 
 // The image of a good card.
-fn put_image(text: &mut [u8; 1119], card: Card) -> usize
-    requires { good card ≡ true }
-    ensures { Put text.old 0 (image_of card) text.new result }
+fn put_image(text: &mut [u8; 1119], card: &Card) -> usize
+    requires { good card.now ≡ true }
+    ensures { Put text.old 0 (image_of card.now) text.new result }
 {
-    match image_writer::write(card, text) {
-        WriteResult::Written(n) => n,
-        WriteResult::NotWritten(_) => 0,
-    }
+    image_writer::write(card, text).unwrap_or(0)
 }
 
 // An image, loaded and written to the front of the text; or its load number. Answers the place behind it.
@@ -35,9 +33,8 @@ pub fn rewrite(image: &[u8], text: &mut [u8; 1119]) -> usize
     ensures { Put text.old 0 (rewritten image.now) text.new result }
 {
     let loaded = image::load(image);
-    let result = loaded.result;
-    match result {
-        LoadResult::Accepted => put_image(text, loaded.card),
-        LoadResult::Faulty(fault) => put_number(text, fault),
+    match loaded.result {
+        Ok(()) => put_image(text, &loaded.card),
+        Err(fault) => put_number(text, fault),
     }
 }

@@ -5,24 +5,19 @@ use Prim.Native.Nat.{ℕ}
 use native.Mathlib.Omega.{arith}
 use lib.Dec.{eqb}
 use borrow.Author.Tests.{ne_eqb}
-use Rattle.rules.specs.declared.Named.{Named}
-use Rattle.rules.specs.declared.Named.TheVariants.{Is, Nothing}
-use Rattle.rules.specs.declared.Parsed.{Parsed}
-use Rattle.rules.specs.declared.Parsed.TheVariants.{Form, Malformed}
 use Rattle.rules.specs.declared.JobKind.{JobKind}
 use Rattle.rules.specs.declared.JobKind.TheVariants.{Authenticate, Sign, Decipher}
 use Rattle.rules.specs.declared.Refusal.{Refusal}
 use Rattle.rules.specs.declared.Refusal.TheVariants.{BadState, ShortBuffer, CertificateLength, JobWaiting}
 use Rattle.rules.specs.declared.Refusal.TheVariants.{NoJobWaiting}
 use Rattle.rules.specs.declared.Reply.{Reply}
-use Rattle.rules.specs.declared.Reply.TheVariants.{Refused, Response, HandedOut, WasReset}
+use Rattle.rules.specs.declared.Reply.TheVariants.{Response, HandedOut, WasReset}
+use Rattle.rules.specs.declared.Header.{Header}
+use Rattle.rules.specs.declared.Command.{Command}
+use Rattle.std.specs.Prelude.{Option, Some, None, Result, Ok, Err}
 use Rattle.rules.specs.declared.Fault.{Fault}
 use Rattle.rules.specs.declared.Fault.TheVariants.{EndsEarly, WrongCount, BadCode, BadKey, BadReference}
 use Rattle.rules.specs.declared.Fault.TheVariants.{RecordLength, LeftOver, UnblockingCount}
-use Rattle.rules.specs.declared.LoadResult.{LoadResult}
-use Rattle.rules.specs.declared.LoadResult.TheVariants.{Accepted, Faulty}
-use Rattle.rules.specs.declared.WriteResult.{WriteResult}
-use Rattle.rules.specs.declared.WriteResult.TheVariants.{NotWritten, Written}
 use Rattle.rules.specs.Numbers.{kind_number, refusal_number, Returned, edge, responded, handed_out, was_reset}
 use Rattle.rules.specs.Numbers.{returned, fault_number, load_number, LengthForm, form, refused, length_form}
 use Rattle.rules.specs.Numbers.{Wrote, unwritten, wrote, wrote_of, ToldApart}
@@ -53,78 +48,78 @@ refusal_back CertificateLength = refl
 refusal_back JobWaiting = refl
 refusal_back NoJobWaiting = refl
 
-reply_of : Returned → Reply
-reply_of (edge n) = Refused (refusal_of_lem n)
-reply_of (responded n) = Response n
-reply_of (handed_out kind key) = HandedOut (kind_of kind) key
-reply_of was_reset = WasReset
+reply_of : Returned → Result Reply Refusal
+reply_of (edge n) = Err (refusal_of_lem n)
+reply_of (responded n) = Ok (Response n)
+reply_of (handed_out kind key) = Ok (HandedOut (kind_of kind) key)
+reply_of was_reset = Ok WasReset
 
-reply_back : (a : Reply) → reply_of (returned a) ≡ a
+reply_back : (a : Result Reply Refusal) → reply_of (returned a) ≡ a
 unfolding reply_of
-reply_back (Refused r) = ap Refused (refusal_back r)
-reply_back (Response n) = refl
-reply_back (HandedOut kind key) = ap (λ (k : JobKind). HandedOut k key) (kind_back kind)
-reply_back WasReset = refl
+reply_back (Err r) = ap Err (refusal_back r)
+reply_back (Ok (Response n)) = refl
+reply_back (Ok (HandedOut kind key)) = ap (λ (k : JobKind). Ok (HandedOut k key)) (kind_back kind)
+reply_back (Ok WasReset) = refl
 
 -- The result of load; 0 stands for no fault.
-load_of : ℕ → LoadResult
+load_of : ℕ → Result (Unit {0}) Fault
 load_of n =
-    cond (eqb n 0) Accepted
-    (cond (eqb n 21) (Faulty EndsEarly)
-    (cond (eqb n 22) (Faulty WrongCount)
-    (cond (eqb n 23) (Faulty BadCode)
-    (cond (eqb n 24) (Faulty BadKey)
-    (cond (eqb n 25) (Faulty BadReference)
-    (cond (eqb n 26) (Faulty RecordLength)
-    (cond (eqb n 27) (Faulty LeftOver)
-    (Faulty UnblockingCount))))))))
+    cond (eqb n 0) (Ok tt)
+    (cond (eqb n 21) (Err EndsEarly)
+    (cond (eqb n 22) (Err WrongCount)
+    (cond (eqb n 23) (Err BadCode)
+    (cond (eqb n 24) (Err BadKey)
+    (cond (eqb n 25) (Err BadReference)
+    (cond (eqb n 26) (Err RecordLength)
+    (cond (eqb n 27) (Err LeftOver)
+    (Err UnblockingCount))))))))
 
-load_back : (a : LoadResult) → load_of (load_number a) ≡ a
+load_back : (a : Result (Unit {0}) Fault) → load_of (load_number a) ≡ a
 unfolding load_of
-load_back Accepted = refl
-load_back (Faulty EndsEarly) = refl
-load_back (Faulty WrongCount) = refl
-load_back (Faulty BadCode) = refl
-load_back (Faulty BadKey) = refl
-load_back (Faulty BadReference) = refl
-load_back (Faulty RecordLength) = refl
-load_back (Faulty LeftOver) = refl
-load_back (Faulty UnblockingCount) = refl
+load_back (Ok tt) = refl
+load_back (Err EndsEarly) = refl
+load_back (Err WrongCount) = refl
+load_back (Err BadCode) = refl
+load_back (Err BadKey) = refl
+load_back (Err BadReference) = refl
+load_back (Err RecordLength) = refl
+load_back (Err LeftOver) = refl
+load_back (Err UnblockingCount) = refl
 
-fault_in : LoadResult → Fault
-fault_in Accepted = LeftOver
-fault_in (Faulty f) = f
+fault_in : Result (Unit {0}) Fault → Fault
+fault_in (Ok tt) = LeftOver
+fault_in (Err f) = f
 
 fault_back : (a : Fault) → fault_in (load_of (fault_number a)) ≡ a
 unfolding fault_in
-fault_back a = ap fault_in (load_back (Faulty a))
+fault_back a = ap fault_in (load_back (Err a))
 
-write_of : Wrote → WriteResult
-write_of (unwritten n) = NotWritten (refusal_of_lem n)
-write_of (wrote n) = Written n
+write_of : Wrote → Result ℕ Refusal
+write_of (unwritten n) = Err (refusal_of_lem n)
+write_of (wrote n) = Ok n
 
-write_back : (a : WriteResult) → write_of (wrote_of a) ≡ a
+write_back : (a : Result ℕ Refusal) → write_of (wrote_of a) ≡ a
 unfolding write_of
-write_back (NotWritten r) = ap NotWritten (refusal_back r)
-write_back (Written n) = refl
+write_back (Err r) = ap Err (refusal_back r)
+write_back (Ok n) = refl
 
-parsed_of : LengthForm → Parsed
-parsed_of (form h start) = Form h start
-parsed_of (refused sw) = Malformed
+parsed_of : LengthForm → Option (Header × ℕ)
+parsed_of (form h start) = Some (h, start)
+parsed_of (refused sw) = None
 
-form_back : (a : Parsed) → parsed_of (length_form a) ≡ a
+form_back : (a : Option (Header × ℕ)) → parsed_of (length_form a) ≡ a
 unfolding parsed_of
-form_back (Form h start) = refl
-form_back Malformed = refl
+form_back (Some (h, start)) = refl
+form_back None = refl
 
-named_of : Naming → Named
-named_of (names x) = Is x
-named_of (names_none sw) = Nothing
+named_of : Naming → Option Command
+named_of (names x) = Some x
+named_of (names_none sw) = None
 
-named_back : (a : Named) → named_of (naming a) ≡ a
+named_back : (a : Option Command) → named_of (naming a) ≡ a
 unfolding named_of
-named_back (Is x) = refl
-named_back Nothing = refl
+named_back (Some x) = refl
+named_back None = refl
 
 pub told_apart : ToldApart
 told_apart =
@@ -141,5 +136,5 @@ told_apart =
 
 pub fault_some : (f : Fault) → eqb (fault_number f) 0 ≡ false
 fault_some f = ne_eqb (fault_number f) 0 (λ e.
-    let same : Faulty f ≡ Accepted = told_apart.loads (Faulty f) Accepted e in
+    let same : ◌≡◌ {A = Result (Unit {0}) Fault} (Err f) (Ok tt) = told_apart.loads (Err f) (Ok tt) e in
     let none : ◌≡◌ {A = ℕ} 0 1 = cc in omega arith)

@@ -1,6 +1,8 @@
 #![tactic(auto)]
 
 // The card's state and what its calls answer. The rules stand in specs/, in the order of document 01.
+pub mod conversions;
+
 ghost use Rattle.std.specs.Prelude.{◌≡◌};
 ghost use Rattle.rules.specs.Codes.{least};
 
@@ -15,6 +17,7 @@ pub struct Code {
 }
 
 impl Code {
+    // The codes' numbers, by which they stand in an array.
     pub const PUK: usize = 0;
 
     pub const PIN1: usize = 1;
@@ -60,7 +63,8 @@ pub struct Profile {
     pub personal: [Record; 16],
 }
 
-// The current directory and file; file 0 is none.
+// The current directory and file; file 0 is none. Numbers, here and in the session's other parts, and no enums or Options: a state
+// may hold any of them, and `good` says which are good.
 #[repr(C)]
 #[derive(Clone, Copy)]
 pub struct Selection {
@@ -113,8 +117,9 @@ pub struct Session {
     pub job: Job,
 }
 
-// The card. Beside its codes stand the unblocking counts of PIN1 and PIN2, in this order: a code that is stored anew leaves
-// them as they are. Widths and order of all its fields leave no padding between or behind them.
+// The card, all of it in fixed places, with no heap: each string has its length beside it. Beside its codes stand the unblocking
+// counts of PIN1 and PIN2, in this order: a code that is stored anew leaves them as they are. Widths and order of all its fields
+// leave no padding between or behind them.
 #[repr(C)]
 #[derive(Clone, Copy)]
 pub struct Card {
@@ -124,7 +129,7 @@ pub struct Card {
     pub session: Session,
 }
 
-// A command APDU's header, its Lc (0 where it has no data) and its Le (0 where it has none).
+// A command APDU's header, its Lc (0 where it has no data) and its Le (0 where it has none), as numbers: the rules compute with them.
 #[derive(Clone, Copy)]
 pub struct Header {
     pub cla: u8,
@@ -133,13 +138,6 @@ pub struct Header {
     pub p2: u8,
     pub lc: usize,
     pub le: u16,
-}
-
-// What the length form of a command gives: its header and where its data starts. `length_form` says what each case is.
-#[derive(Clone, Copy)]
-pub enum Parsed {
-    Form(Header, usize),
-    Malformed,
 }
 
 // The commands, in document 01's order.
@@ -159,13 +157,6 @@ pub enum Command {
     Decipher,
 }
 
-// The command that a header names, if any.
-#[derive(Clone, Copy)]
-pub enum Named {
-    Is(Command),
-    Nothing,
-}
-
 // How a presented value is judged.
 #[derive(Clone, Copy)]
 pub enum Verdict {
@@ -174,7 +165,7 @@ pub enum Verdict {
     NoTries,
 }
 
-// The codes after a command, and the status word that is its whole answer.
+// The codes after a command, and the status word that is its whole answer, a number as the papers print it.
 #[derive(Clone, Copy)]
 pub struct CodeStep {
     pub codes: [Code; 3],
@@ -199,20 +190,13 @@ pub enum JobKind {
     Decipher,
 }
 
-// What a call returns beside the card: an edge refusal; the length of a response in the buffer; a job's kind and key,
-// its block in the buffer; or that a power reset was done. `returned` gives document 01's numbers.
+// What a call answers where the edge does not refuse it: the length of a response in the buffer; a job's kind and key, its block
+// in the buffer; or that a power reset was done. `returned` gives document 01's numbers, of the edge's refusals too.
 #[derive(Clone, Copy)]
 pub enum Reply {
-    Refused(Refusal),
     Response(usize),
     HandedOut(JobKind, u16),
     WasReset,
-}
-
-#[derive(Clone, Copy)]
-pub struct Outcome {
-    pub card: Card,
-    pub reply: Reply,
 }
 
 // The faults of a card image; `fault_number` gives document 01's numbers.
@@ -228,23 +212,9 @@ pub enum Fault {
     UnblockingCount,
 }
 
-// What load answers; `load_number` gives document 01's numbers.
-#[derive(Clone, Copy)]
-pub enum LoadResult {
-    Accepted,
-    Faulty(Fault),
-}
-
-// What load returns: a card, or a fault beside the all-zero state.
+// What load returns, a card in either case: the image's; or, with the fault, the all-zero state. `load_number` gives document 01's numbers.
 #[derive(Clone, Copy)]
 pub struct Loaded {
     pub card: Card,
-    pub result: LoadResult,
-}
-
-// What the writer answers: an edge refusal, or the length of the image in the buffer. `wrote_of` gives document 02's numbers.
-#[derive(Clone, Copy)]
-pub enum WriteResult {
-    NotWritten(Refusal),
-    Written(usize),
+    pub result: Result<(), Fault>,
 }

@@ -20,7 +20,3 @@ module _ (s : Session) (le : ℕ) (d : Bytes) where
   pub give_held : le < length d → session_status (with_held s d) (more_bytes (length d)) ≡ give s le d
   unfolding give
   give_held h = simp (lt-leb (length d) le h)
-
-pub with_codes_lem : (x : SessionStep) {codes next : List Code} {counts : List ℕ} {o : SessionOutput} → next ≡ codes → o ≡ session_output_for x
-    → record { codes = next; counts = counts; session = o.session; output = o.output } ≡ step_output_for (in_session codes counts x)
-with_codes_lem x e f = simp (e, f)

@@ -29,10 +29,9 @@ pub struct StepOutput {
 pub fn session_status(s: Session, sw: u16) -> SessionOutput
     ensures { result ≡ session_output_for (session_status s sw) }
 {
-    let output = answers::status(sw);
     SessionOutput {
         session: s,
-        output: output,
+        output: answers::status(sw),
     }
 }
 
@@ -40,10 +39,9 @@ pub fn session_status(s: Session, sw: u16) -> SessionOutput
 pub fn session_data(s: Session, d: &[u8], sw: u16) -> SessionOutput
     ensures { result ≡ session_output_for (record { session = s; answer = response (take 256 d.now) sw }) }
 {
-    let output = answers::with_data(d, sw);
     SessionOutput {
         session: s,
-        output: output,
+        output: answers::with_data(d, sw),
     }
 }
 
@@ -63,8 +61,7 @@ pub fn give(s: Session, le: u16, d: &[u8]) -> SessionOutput
     ensures { result ≡ session_output_for (give s le (take 256 d.now)) }
 {
     let shown = octets::part(d, 0, 256);
-    let n = shown.len();
-    if n <= numbers::wide16(le) {
+    if shown.len() <= usize::from(le) {
         return session_data(s, shown, 0x9000);
     }
     let held = pending::with_held(s, shown);
@@ -76,14 +73,13 @@ pub fn hand_out(s: Session, kind: JobKind, key: u16, le: u16, block: [u8; 256]) 
     ensures { result ≡ session_output_for (hand_out s (kind_number kind) key le block) }
 {
     let job = Job {
-        kind: keys::kind_number(kind),
-        key: key,
-        le: le,
+        kind: u16::from(kind),
+        key,
+        le,
     };
-    let output = answers::handed_out(kind, key, block);
     SessionOutput {
         session: state::with_job(s, job),
-        output: output,
+        output: answers::handed_out(kind, key, block),
     }
 }
 
@@ -92,24 +88,21 @@ pub fn in_codes(counts: [u8; 2], s: Session, step: CodeStep) -> StepOutput
     ensures { result ≡ step_output_for (in_codes counts s step) }
 {
     let codes = step.codes;
-    let output = answers::status(step.sw);
     StepOutput {
-        codes: codes,
-        counts: counts,
+        codes,
+        counts,
         session: s,
-        output: output,
+        output: answers::status(step.sw),
     }
 }
 
 pub fn in_session(codes: [Code; 3], counts: [u8; 2], o: SessionOutput) -> StepOutput
     ensures { result ≡ record { codes = codes; counts = counts; session = o.session; output = o.output } }
 {
-    let session = o.session;
-    let output = o.output;
     StepOutput {
-        codes: codes,
-        counts: counts,
-        session: session,
-        output: output,
+        codes,
+        counts,
+        session: o.session,
+        output: o.output,
     }
 }

@@ -73,7 +73,7 @@ blank_bytes zero = refl
 blank_bytes (suc n) = blank_bytes n
 
 -- A line keeps the certificates strings of bytes, and its text is short.
-abbrev Lent : Setup → Type 0
+abbrev pub Lent : Setup → Type 0
 Lent s = (all_bytes s.authentication && all_bytes s.signature) ≡ true
 
 module _ (d : Dialect) (s : Setup) (e : Lent s) where
@@ -104,7 +104,7 @@ module _ (d : Dialect) (s : Setup) (e : Lent s) where
     signatures = λ b f h. (omega (arith, small d), rw (first, f));
   }
 
-  line_short : (line : Bytes) → (length (answer_line d s line).text ≤ most_text d) × Lent (answer_line d s line).setup
+  pub line_short : (line : Bytes) → (length (answer_line d s line).text ≤ most_text d) × Lent (answer_line d s line).setup
   line_short = every_request Short d short
 
 pub short_output : ShortOutput

@@ -1,135 +1,106 @@
 -- Laws of the code that reads an input line by line.
-use mathlib.Core.Path.{◌≡◌, refl, sym, ap, ◌∙◌}
-use mathlib.Core.Bool.{cond}
-use mathlib.Core.List.{[], ◌∷◌, ◌++◌}
-use Prim.Native.Nat.{ℕ, suc, ◌+◌, ◌≤◌, ◌<◌, min}
+use mathlib.Core.Path.{◌≡◌, sym, ◌∙◌}
+use mathlib.Core.List.{[], ◌∷◌, ◌++◌, append_assoc, append-nil}
+use Prim.Native.Nat.{ℕ, suc, ◌+◌, ◌-◌, ◌≤◌, min}
 use native.Mathlib.Omega.{arith}
-use lib.Dec.{eqb}
-use lib.ListN.{length, take, drop, length-take}
-use lib.Seq.{take-nil, take_all, take-add}
+use Rattle.std.proofs.Common.{Some, None}
+use Rattle.std.specs.List.{position}
 use mathlib.Core.Logic.{◌≢◌}
-use borrow.Author.Tests.{ne_eqb}
-use Rattle.octets.specs.Octets.{Bytes, filled}
-use Rattle.octets.proofs.Strings.{take_twice}
-use Rattle.rules.specs.declared.Card.{Card}
-use Rattle.lines.specs.declared.Answered.{Answered}
+use borrow.Author.Tests.{eq-eqb, ne_eqb}
+use lib.Dec.{eqb}
+use lib.ListN.{length, take, drop, length-take, length-drop}
+use lib.Seq.{take_all}
+use Rattle.octets.specs.Octets.{Bytes}
+use Rattle.octets.proofs.Cutting.{cut_front}
+use Rattle.octets.proofs.Pasting.{pasted_zero}
 use Rattle.requests.specs.declared.Dialect.{Dialect}
+use Rattle.requests.specs.declared.Dialect.TheVariants.{Transcript, StandIn}
 use Rattle.requests.specs.Requests.{line_feed, longest}
+use Rattle.lines.specs.declared.kept.Kept.{Kept}
+use Rattle.lines.specs.declared.Terminal.{Terminal}
+use Rattle.lines.specs.Rooms.{held, kept}
 use Rattle.lines.specs.Lines.{answer_line}
-use Rattle.lines.specs.Terminals.{Answers}
+use Rattle.lines.specs.Terminals.{setup_of, Answers}
+use Rattle.lines.proofs.Answers.{setup_read}
 use Rattle.writing.specs.Puts.{Put}
 use Rattle.writing.proofs.Puts.{put_then}
-use Rattle.octets.proofs.Pasting.{pasted_zero}
-use Rattle.lines.proofs.Answers.{setup_read}
-use Rattle.transcripts.specs.Transcript.{Program, Run, written_before, kept_line, run}
-use Rattle.transcripts.specs.Consoles.{line_length, program_of, Holds, Reads, ReadsFirst}
 use Rattle.transcripts.specs.declared.Console.{Console}
-use Rattle.transcripts.specs.declared.FirstLine.{FirstLine}
-use Rattle.transcripts.proofs.Runs.{run_append, run_plain, run_line, at_end_lem, further, next_line}
-use Rattle.transcripts.proofs.Rooms.{cut_at}
+use Rattle.transcripts.specs.Transcript.{Program, written_before, at_line_end, run, finished}
+use Rattle.transcripts.specs.Consoles.{program_of, with_more, Holds, EndsLine, Reads}
+use Rattle.transcripts.proofs.Runs.{run_first, run_rest}
 
--- Nothing written.
-put_nothing : (before : Bytes) (at : ℕ) → at ≤ length before → Put before at [] before at
-put_nothing before at h = record { whole = sym (pasted_zero before at); place = omega arith }
+-- A line that is too long still fits its room.
+longest_fits : (d : Dialect) → longest d ≤ 4096
+longest_fits Transcript = omega arith
+longest_fits StandIn = omega arith
 
--- The first line of an input: what has come of it, with the characters before the first line feed.
-module _ (d : Dialect) (c : Console) (l₀ a₀ s₀ input before : Bytes) (at : ℕ) where
-  abbrev here : Program
-  here = program_of d c l₀ a₀ s₀
+-- A console's line is short.
+pub short : (d : Dialect) (c : Console) → length (program_of d c).line ≤ suc (longest d)
+short d c = omega (arith, length-take (suc (longest d)) (held c.line))
 
-  abbrev cut : Bytes
-  cut = take (line_length input) input
+-- All that stands behind the first k bytes.
+pub after : (b : Bytes) (k : ℕ) → take (length b - k) (drop k b) ≡ drop k b
+after b k = take_all (length b - k) (drop k b) (omega (arith, length-drop k b))
 
-  fits : length here.line ≤ suc (longest d)
-  fits = omega (arith, length-take (suc (longest d)) (take c.line l₀))
+-- More characters of a line.
+module _ (d : Dialect) (c : Console) (more : Bytes) {most : ℕ} (m : most ≡ suc (longest d)) (line : Kept 4097) (k : held line ≡ take (min most 4097) (held c.line ++ more)) where
+  pub line_added : held line ≡ (with_more d (program_of d c) more).line
+  line_added =
+      let size : min most 4097 ≡ suc (longest d) = omega (arith, longest_fits d) in
+      k ∙ rw size (sym (cut_front (suc (longest d)) (held c.line) more))
 
-  module _ {n : ℕ} (e : n ≡ line_length input) {shown : Bytes} (s : shown ≡ take n input) (have : ℕ) (l : Bytes)
-      (k : take have l ≡ kept_line d (here.line ++ shown)) where
-    line : take have l ≡ (further d here cut).line
-    line = k ∙ rw (s, e)
+  -- All that has come, with zeros behind each string.
+  pub console_added : {last : Kept 4097} {authentication signature : Kept 2048} → last ≡ kept 4097 (held line)
+      → authentication ≡ kept 2048 (held c.terminal.authentication) → signature ≡ kept 2048 (held c.terminal.signature)
+      → Holds (with_more d (program_of d c) more)
+      (record { terminal = record { card = c.terminal.card; authentication = authentication; signature = signature; buffer = c.terminal.buffer }; line = last })
+  console_added l a s = rw (l, a, s, line_added)
 
-    pub plain_read : n ≡ length input → at ≤ length before
-        → ReadsFirst d here input before at l a₀ s₀ before (record { console = record { terminal = c.terminal; line = have }; written = at; taken = n })
-    plain_read h room =
-        let whole : run d here (take n input) ≡ record { program = further d here cut; text = [] } = rw e (run_plain d here input fits) in
-        record {
-          program = rw (whole, line) (ap (λ (b : Bytes). record { setup = here.setup; line = b }) (take_twice (suc (longest d)) (here.line ++ cut)));
-          output = rw whole (put_nothing before at room);
-          taken = omega arith;
-        }
+  -- A line that ends.
+  pub line_ended : {shown : Bytes} → shown ≡ held line → {next : Terminal} {before after : Bytes} {at end : ℕ}
+      → Answers (answer_line d (setup_of c.terminal) shown) c.terminal before at next after end → (rest : Bytes)
+      → EndsLine (at_line_end d (with_more d (program_of d c) more)) before at (program_of d (record { terminal = next; line = record { bytes = rest; len = 0 } })) after end
+  line_ended s x rest =
+      let y = rw (s, line_added) at x in
+      record { program = rw (setup_read y); output = y.line }
 
-    pub line_read : n ≤ length input → n ≢ length input → {kept : Bytes} → kept ≡ take have l
-        → {a s after : Bytes} {r : Answered} → Answers (answer_line d here.setup kept) a₀ s₀ before at a s after r
-        → ReadsFirst d here input before at l a s after (record { console = record { terminal = r.terminal; line = 0 }; written = r.end; taken = n + 1 })
-    line_read below not {kept} f {r = r} x =
-        let more : line_length input < length input = omega arith in
-        let all : kept ≡ (further d here cut).line = f ∙ line in
-        let whole : run d here (take (n + 1) input) ≡ record { program = next_line d (further d here cut); text = (answer_line d here.setup (further d here cut).line).text } = rw e (run_line d here input fits more) in
-        let y = rw all at x in
-        record {
-          program = rw (whole, setup_read y);
-          output = rw whole y.line;
-          taken = omega arith;
-        }
+-- The end of the input, where nothing has come of a line, and where something has.
+module _ (d : Dialect) (c : Console) where
+  pub none_open : length (held c.line) ≡ 0 → finished d (program_of d c) ≡ run d (program_of d c) []
+  unfolding finished
+  none_open h = rw (eq-eqb (length (program_of d c).line) 0 (omega (arith, length-take (suc (longest d)) (held c.line))))
 
--- The loop over an input: where it has come to at a place.
+  pub one_open : length (held c.line) ≢ 0 → finished d (program_of d c) ≡ run d (program_of d c) (line_feed ∷ [])
+  unfolding finished
+  one_open h = rw (ne_eqb (length (program_of d c).line) 0 (omega (arith, length-take (suc (longest d)) (held c.line))))
+
+-- The loop over an input: what has been written, and what is left of the input.
 module _ (d : Dialect) (p : Program) (input room : Bytes) where
-  abbrev so_far : ℕ → Run
-  so_far at = run d p (take at input)
+  pub record Reached (c : Console) (rest buffer : Bytes) (written : ℕ) : Type 0 where
+    pub text : Bytes
+    pub whole : run d p input ≡ written_before text (run d (program_of d c) rest)
+    pub output : Put room 0 text buffer written
 
-  pub record Reached (buffer : Bytes) (q : Program) (at written : ℕ) : Type 0 where
-    pub program : q ≡ (so_far at).program
-    pub output : Put room 0 (so_far at).text buffer written
+  pub reached_start : (c : Console) → p ≡ program_of d c → Reached c input room 0
+  reached_start c e = record {
+    text = [];
+    whole = rw e;
+    output = record { whole = sym (pasted_zero room 0); place = omega arith };
+  }
 
-  pub reached_start : Reached room p 0 0
-  reached_start =
-      let none = at_end_lem d (kept_line d) p in
-      record {
-        program = sym (ap (λ (r : Run). r.program) none);
-        output = rw (ap (λ (r : Run). r.text) none) (put_nothing room 0 (omega arith));
-      }
+  module _ {c : Console} {rest buffer : Bytes} {written : ℕ} (x : Reached c rest buffer written) where
+    pub reached_more : (n : ℕ) → Some n ≡ position (λ c. eqb c line_feed) rest → {tail : Bytes} → tail ≡ drop (n + 1) rest → {next : Console} {after : Bytes} {end : ℕ}
+        → EndsLine (at_line_end d (with_more d (program_of d c) (take n rest))) buffer written (program_of d next) after end
+        → Reached next tail after end
+    reached_more n e t y = rw t (record {
+      text = x.text ++ (at_line_end d (with_more d (program_of d c) (take n rest))).text;
+      whole = x.whole ∙ rw (run_first d (program_of d c) rest n e (short d c), y.program, append_assoc);
+      output = put_then x.output y.output;
+    })
 
-  pub reached_more : {buffer : Bytes} {q : Program} {at written : ℕ} → Reached buffer q at written → {rest : Bytes} → rest ≡ drop at input
-      → {l a s after : Bytes} {r : FirstLine} → ReadsFirst d q rest buffer written l a s after r
-      → Reached after (program_of d r.console l a s) (at + r.taken) r.written
-  reached_more {at = at} x e {r = r} y =
-      let z = rw (e, x.program) at y in
-      let whole : so_far (at + r.taken) ≡ written_before (so_far at).text (run d (so_far at).program (take r.taken (drop at input))) =
-      rw (take-add at r.taken input) (run_append d (kept_line d) p (take at input) (take r.taken (drop at input))) in
-      record { program = rw whole z.program; output = rw whole (put_then x.output z.output) }
-
-  pub reached_end : {buffer : Bytes} {q : Program} {at written : ℕ} → Reached buffer q at written → length input ≤ at
-      → {l a s : Bytes} {held : Console} → Holds q l a s held
-      → Reads (run d p input) room l a s buffer (record { console = held; written = written })
-  reached_end {at = at} x h y =
-      let all : so_far at ≡ run d p input = rw (take_all at input h) in
-      rw (← all) (record { held = rw (← x.program) y; output = x.output })
-
--- A console tidied up.
-pub tidy_line : (d : Dialect) (l : Bytes) (n : ℕ) {have most : ℕ} → most ≡ suc (longest d) → have ≡ min (0 + n) most → take have l ≡ kept_line d (take n l)
-tidy_line d l n m e = rw (e, m) (sym (cut_at l n (suc (longest d))))
-
--- The line feed that a last line still needs.
-pub last_feed : (d : Dialect) (b : Bytes) → take (length b) (line_feed ∷ []) ≡ cond (eqb (length (kept_line d b)) 0) [] (line_feed ∷ [])
-last_feed d [] = refl
-last_feed d (x ∷ b) =
-    let some : length (kept_line d (x ∷ b)) ≢ 0 = omega arith in
-    rw (ne_eqb (length (kept_line d (x ∷ b))) 0 some, take-nil (length b))
-
--- A string at the front of a room of a known size.
-pub sized : {after t b : Bytes} {n k m : ℕ} → k ≡ m → t ≡ b → (n ≡ length t) × (after ≡ filled k t)
-    → (n ≡ length b) × (after ≡ filled m b)
-sized e f w = (w.0 ∙ ap length f, w.1 ∙ rw (e, f))
-
--- A program as the code holds it, put together.
-pub holds : (p : Program) {l a s : Bytes} {c : Card} {na ns nb nl : ℕ} → c ≡ p.setup.card
-    → (na ≡ length p.setup.authentication) × (a ≡ filled 2048 p.setup.authentication)
-    → (ns ≡ length p.setup.signature) × (s ≡ filled 2048 p.setup.signature) → nb ≡ p.setup.buffer
-    → (nl ≡ length p.line) × (l ≡ filled 4097 p.line)
-    → Holds p l a s (record { terminal = record { card = c; authentication = na; signature = ns; buffer = nb }; line = nl })
-holds p c a s b l = record {
-  console = rw (c, a.0, s.0, b, l.0);
-  line = l.1;
-  authentication = a.1;
-  signature = s.1;
-}
+    pub reached_end : None ≡ position (λ c. eqb c line_feed) rest → {last : Console} → Holds (with_more d (program_of d c) rest) last
+        → Reads (run d p input) room last buffer written
+    reached_end e y =
+        let all : run d p input ≡ record { program = with_more d (program_of d c) rest; text = x.text } =
+        x.whole ∙ rw (run_rest d (program_of d c) rest e (short d c), append-nil) in
+        rw all (record { held = y; output = x.output })

@@ -1,35 +1,60 @@
 -- Laws of an input read in parts, and of its first line.
-use mathlib.Core.Path.{◌≡◌, refl, ap, ◌∙◌}
-use mathlib.Core.Bool.{true, false}
+use mathlib.Core.Path.{◌≡◌, refl, sym, ap, ◌∙◌}
+use mathlib.Core.Bool.{Bool, true, false, cond}
 use mathlib.Core.List.{[], ◌∷◌, ◌++◌, append_assoc, append-nil}
 use Prim.Native.Nat.{ℕ, suc, ◌+◌, ◌≤◌, ◌<◌}
 use native.Mathlib.Nat.{le_of_suc-le-suc, not-suc-le-zero}
 use native.Mathlib.Numerals.{add-one}
 use native.Mathlib.Omega.{arith}
-use lib.Dec.{eqb}
-use lib.ListN.{length, take, drop, length-take, drop_of_length-le}
-use lib.Seq.{take_all, take-suc, drop-cons}
-use mathlib.Core.Logic.{◌≢◌}
-use borrow.Author.Tests.{eqb-true, eq-eqb, ne_eqb}
+use Rattle.std.proofs.Common.{Some, None}
+use Rattle.std.specs.List.{position, position_or_len}
+use lib.Dec.{eqb, ltb}
+use lib.ListN.{length, take, drop, length-take, take-append-drop}
+use lib.Seq.{take_all, take-suc}
+use borrow.Author.Tests.{eqb-true, ltb-true, ltb-false}
 use Rattle.octets.proofs.Cutting.{cut_front}
 use Rattle.octets.specs.Octets.{Bytes, byte_at}
 use Rattle.octets.proofs.Tests.{by_test}
 use Rattle.requests.specs.declared.Dialect.{Dialect}
 use Rattle.lines.specs.Lines.{LineAnswer}
 use Rattle.requests.specs.Requests.{line_feed, longest}
+use Rattle.transcripts.specs.Consoles.{with_more}
 use Rattle.transcripts.specs.Transcript.{Program, Run, written_before, at_line_end, run_with, kept_line, run}
-use Rattle.transcripts.specs.Consoles.{line_length}
 
--- The characters before the first line feed: none is left, the one at the index is a line feed, or it is another.
-module _ (s : Bytes) (i : ℕ) where
-  pub count_end : length s ≤ i → line_length (drop i s) ≡ 0
-  count_end h = rw (drop_of_length-le s h)
+-- How many characters stand before the first line feed.
+abbrev pub line_length : Bytes → ℕ
+line_length [] = 0
+line_length (x ∷ b) = cond (eqb x line_feed) 0 (suc (line_length b))
 
-  pub count_stop : i < length s → byte_at s i ≡ line_feed → line_length (drop i s) ≡ 0
-  count_stop h e = rw (drop-cons s i 0 h, eq-eqb _ _ e)
+abbrev feed : ℕ → Bool
+feed c = eqb c line_feed
 
-  pub count_more : i < length s → byte_at s i ≢ line_feed → line_length (drop i s) ≡ suc (line_length (drop (i + 1) s))
-  count_more h n = rw (add-one, drop-cons s i 0 h, ne_eqb _ _ n)
+-- The library counts them too.
+counted : (b : Bytes) → position_or_len feed b ≡ line_length b
+counted [] = refl
+counted (x ∷ b) =
+    by_test _ (eqb x line_feed)
+    (λ e. rw e)
+    (λ e. rw e (omega (arith, counted b)))
+
+pub some_feed : (b : Bytes) (n : ℕ) → Some n ≡ position feed b → (n ≡ line_length b) × (line_length b < length b)
+some_feed b n h =
+    by_test _ (ltb (line_length b) (length b))
+    (λ e.
+    let found : Some n ≡ Some (line_length b) = h ∙ rw (counted b, e) in
+    let same : n ≡ line_length b = cc in
+    (same, ltb-true (line_length b) (length b) e))
+    (λ e.
+    let none : Some n ≡ None = h ∙ rw (counted b, e) in
+    cc)
+
+pub no_feed : (b : Bytes) → None ≡ position feed b → length b ≤ line_length b
+no_feed b h =
+    by_test _ (ltb (line_length b) (length b))
+    (λ e.
+    let found : None ≡ Some (line_length b) = h ∙ rw (counted b, e) in
+    cc)
+    (λ e. ltb-false (line_length b) (length b) e)
 
 module _ (d : Dialect) where
   abbrev answered : Program → LineAnswer
@@ -70,8 +95,8 @@ module _ (d : Dialect) where
   most = suc (longest d)
 
   -- A program that has read more characters, none of them a line feed.
-  abbrev pub further : Program → Bytes → Program
-  further p b = record { setup = p.setup; line = kept_line d (p.line ++ b) }
+  abbrev further : Program → Bytes → Program
+  further = with_more d
 
   none_further : (p : Program) → length p.line ≤ most → run d p [] ≡ record { program = further p []; text = [] }
   none_further p h = rw (at_end_lem (kept_line d) p, append-nil p.line, take_all most p.line h)
@@ -111,3 +136,18 @@ module _ (d : Dialect) where
         at_end_lem (kept_line d) (next_line (further p (take n b))),
         append-nil,
       )
+
+  -- A line with its line feed, and what follows it.
+  pub run_first : (p : Program) (b : Bytes) (n : ℕ) → Some n ≡ position feed b → length p.line ≤ most
+      → run d p b ≡ written_before (answered (further p (take n b))).text (run d (next_line (further p (take n b))) (drop (n + 1) b))
+  run_first p b n e h =
+      let found = some_feed b n e in
+      let line = run_line p b h found.1 in
+      let all : run d p (take (n + 1) b ++ drop (n + 1) b) ≡ run d p b = ap (run d p) (take-append-drop (n + 1) b) in
+      sym all ∙ run_append (kept_line d) p (take (n + 1) b) (drop (n + 1) b) ∙ rw (found.0, line)
+
+  -- An input without one.
+  pub run_rest : (p : Program) (b : Bytes) → None ≡ position feed b → length p.line ≤ most → run d p b ≡ record { program = further p b; text = [] }
+  run_rest p b e h =
+      let all : take (line_length b) b ≡ b = take_all (line_length b) b (no_feed b e) in
+      rw all at (run_plain p b h)

@@ -1,9 +1,6 @@
-use native.Mathlib.Omega.{arith}
-use Rattle.rules.specs.Numbers.{kind_number}
+use Rattle.std.proofs.Common.{arith}
 use Rattle.answers.proofs.Outputs.{job_output}
 use Rattle.answers.proofs.handed_out.Goals as goal
 
 pub returns : goal.returns
-returns c =
-    let s = c.args in
-    job_output (kind_number s.kind) s.key s.block c.kind_number.ensures (omega arith)
+returns c = job_output c.args.kind c.args.key c.args.block (omega arith)

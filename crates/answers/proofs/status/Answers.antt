@@ -1,4 +1,4 @@
-use mathlib.Core.Path.{refl}
+use Rattle.std.proofs.Common.{refl}
 use Rattle.octets.specs.Octets.{filled, blank}
 use Rattle.answers.specs.Outputs.{output_for}
 use Rattle.answers.proofs.status.Goals as goal

@@ -14,9 +14,9 @@ returns c =
       c.unblocked-stored.ensures,
       c.storing-renewed.ensures,
       c.code_of-blocked.ensures,
-      c.new_value-new.ensures,
       c.verdict-found.ensures,
-      c.old_value.ensures,
+      c.two_values.ensures.old,
+      c.two_values.ensures.new,
       c.code_of-puk.ensures,
     )
     (replaced_whole a.codes PUK a.pin (new_value a.codes PUK a.values.now) (λ v. unblocked a.codes a.pin v full_tries) blocked.tries blocked.verified _)

@@ -1,4 +1,5 @@
 use mathlib.Core.Path.{ap, ◌∙◌}
+use native.Mathlib.Omega.{arith}
 use Rattle.steps.specs.Steps.{session_output_for}
 use Rattle.deliveries.proofs.Deliveries.{result_length, signature_given, not_stripped, empty_message, message_given}
 use Rattle.deliveries.proofs.deliver.Goals as goal
@@ -13,17 +14,20 @@ returns-then-s-ne3 c =
     let s = c.args in
     c.give.ensures ∙ ap session_output_for (signature_given s.s s.res.now c.with_job-ended.ensures c.if-res-ne256.false c.if-s-ne3.true)
 
-pub returns-then-start-eq0 : goal.returns-then-start-eq0
-returns-then-start-eq0 c =
+pub returns-in-0 : goal.returns-in-0
+returns-in-0 c =
     let s = c.args in
-    c.session_status-then-start-eq0.ensures ∙ ap session_output_for (not_stripped s.s s.res.now c.with_job-ended.ensures c.if-res-ne256.false c.if-s-ne3.false c.shoalpennant_strip-start.ensures c.if-start-eq0.true)
+    c.session_status-in-0.ensures
+    ∙ ap session_output_for (not_stripped s.s s.res.now c.with_job-ended.ensures c.if-res-ne256.false c.if-s-ne3.false c.shoalpennant_strip.ensures c.in-0.is)
 
-pub returns-then-start-eq256 : goal.returns-then-start-eq256
-returns-then-start-eq256 c =
+pub returns-in-256 : goal.returns-in-256
+returns-in-256 c =
     let s = c.args in
-    c.session_status-then-start-eq256.ensures ∙ ap session_output_for (empty_message s.s s.res.now c.with_job-ended.ensures c.if-res-ne256.false c.if-s-ne3.false c.shoalpennant_strip-start.ensures c.if-start-eq0.false c.if-start-eq256.true)
+    c.session_status-in-256.ensures
+    ∙ ap session_output_for (empty_message s.s s.res.now c.with_job-ended.ensures c.if-res-ne256.false c.if-s-ne3.false c.shoalpennant_strip.ensures (λ z. omega arith) c.in-256.is)
 
-pub returns : goal.returns
-returns c =
+pub returns-in_default : goal.returns-in_default
+returns-in_default c =
     let s = c.args in
-    c.give-2.ensures ∙ ap session_output_for (message_given s.s s.res.now c.with_job-ended.ensures c.if-res-ne256.false c.if-s-ne3.false c.shoalpennant_strip-start.ensures c.if-start-eq0.false c.if-start-eq256.false c.part.ensures)
+    c.give-in_default.ensures
+    ∙ ap session_output_for (message_given s.s s.res.now c.with_job-ended.ensures c.if-res-ne256.false c.if-s-ne3.false c.shoalpennant_strip.ensures (λ z. omega arith) (λ z. omega arith) c.part.ensures)

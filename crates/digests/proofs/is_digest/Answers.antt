@@ -1,17 +1,25 @@
-use mathlib.Core.Path.{sym, ◌∙◌}
-use native.Mathlib.Omega.{arith}
-use Rattle.octets.proofs.Loops.{any_more, any_end}
-use Rattle.rules.specs.Digests.{is_digest}
+use Rattle.std.proofs.Common.{rules}
+use Rattle.std.proofs.lemmas.List.Recursion.{or_is}
+use Rattle.std.specs.Slice.Iter.{iter_rest}
+use mathlib.Core.Path.{refl}
+use mathlib.Core.Bool.{Bool}
+use mathlib.Core.List.{map}
+use Rattle.octets.specs.Octets.{Bytes, any}
+use Rattle.digests.specs.declared.Row.{Row}
+use Rattle.rules.specs.Digests.{row, sha2_form, fits, is_digest}
 use Rattle.digests.proofs.is_digest.Goals as goal
 
-pub loop-i-init : goal.loop-i-init
+-- Whether a string fits a row of the code's table.
+abbrev fits_row : Bytes → Row → Bool
+fits_row d r = fits d (sha2_form (row r.0 r.1 r.2))
+
+pub returns-then-prefixed : goal.returns-then-prefixed
 unfolding is_digest
-loop-i-init c = rw c.prefixed-found.ensures
+returns-then-prefixed c = rw (← c.prefixed.ensures, c.if-prefixed.true)
 
-pub loop-i-preserved : goal.loop-i-preserved
-loop-i-preserved c =
-    let at = c.loop-i in
-    rw c.sha2-found.ensures (at.invariant ∙ any_more _ _ at.i at.found (0, 0, 0) (omega arith))
-
-pub returns : goal.returns
-returns c = sym (c.loop-i.invariant ∙ any_end _ _ c.loop-i.i c.loop-i.found (omega arith))
+pub returns-else-prefixed : goal.returns-else-prefixed
+unfolding is_digest
+returns-else-prefixed c =
+    let d = c.args.d.now in
+    let one = or_is (λ rows. any (map (fits_row d) rows)) (fits_row d) refl (λ _ _. refl) (iter_rest c.iter.result) (0, 0, 0) c.any.result (search rules) (search rules) in
+    rw (← c.prefixed.ensures, c.if-prefixed.false, one, c.iter.ensures.rest)

@@ -1,25 +1,16 @@
-use mathlib.Core.Path.{◌≡◌, sym, ap, ◌∙◌}
+use mathlib.Core.Path.{refl}
 use mathlib.Core.List.{map}
-use native.Mathlib.Omega.{arith}
-use lib.ListN.{length}
+use lib.Dec.{eqb}
+use Rattle.std.proofs.Common.{rules}
+use Rattle.std.proofs.lemmas.List.Recursion.{or_is}
+use Rattle.std.specs.Slice.Iter.{iter_rest}
 use Rattle.octets.specs.Octets.{member}
 use Rattle.rules.specs.declared.Command.TheVariants.{Select}
 use Rattle.rules.specs.Judgement.{instruction, known_instruction}
-use Rattle.headers.proofs.Lists.{known_more, known_end}
 use Rattle.headers.proofs.known_instruction.Goals as goal
 
-pub loop-i-init : goal.loop-i-init
-unfolding known_instruction
-loop-i-init c = ap (λ l. member c.args.h.ins (map instruction l)) (sym c.commands-list.ensures)
-
-pub loop-i-preserved : goal.loop-i-preserved
-loop-i-preserved c =
-    let list = c.commands-list.result in
-    let size : length list ≡ 12 = ap length c.commands-list.ensures in
-    rw c.instruction.ensures (c.loop-i.invariant ∙ known_more c.args.h list c.loop-i.i Select (omega arith) c.loop-i.known)
-
 pub returns : goal.returns
+unfolding known_instruction
 returns c =
-    let list = c.commands-list.result in
-    let size : length list ≡ 12 = ap length c.commands-list.ensures in
-    sym (c.loop-i.invariant ∙ known_end c.args.h list c.loop-i.i c.loop-i.known (omega arith))
+    let ins = c.args.h.ins in
+    rw (or_is (λ l. member ins (map instruction l)) (λ x. eqb ins (instruction x)) refl (λ _ _. refl) (iter_rest c.iter.result) Select c.any.result (search rules) (search rules), c.iter.ensures.rest)

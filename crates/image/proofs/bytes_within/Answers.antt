@@ -1,28 +1,24 @@
-use mathlib.Core.Path.{refl, ◌∙◌}
-use native.Mathlib.Omega.{arith}
-use lib.ListN.{length-set}
+use mathlib.Core.Path.{◌∙◌}
 use Rattle.rules.specs.Numbers.{fault_number}
-use Rattle.image.specs.Cursors.{within}
-use Rattle.image.proofs.Filling.{bytes_repeat, none_yet, one_more_lem, no_more}
+use Rattle.image.specs.Results.{within}
+use native.Mathlib.Omega.{arith}
+use Rattle.image.proofs.Readings.{exits_into}
+use Rattle.image.proofs.Filling.{bytes_repeat, none_yet, one_more, stopped, full}
 use Rattle.image.proofs.bytes_within.Goals as goal
 
-pub loop-i-init : goal.loop-i-init
-loop-i-init c =
-    let a = c.args in
-    (omega arith, refl, none_yet (bytes_repeat (within a.low a.high) (fault_number a.fault)) a.image.now a.n a.cursor)
+pub loop-byte-init : goal.loop-byte-init
+loop-byte-init c = none_yet (bytes_repeat (within c.args.low c.args.high) (fault_number c.args.fault)) c.args.room.now c.args.reader.now
 
-pub loop-i-preserved : goal.loop-i-preserved
-loop-i-preserved c =
-    let a = c.args in
-    let l = c.loop-i in (
-      omega arith,
-      simp length-set l.invariant.1,
-      one_more_lem (bytes_repeat (within a.low a.high) (fault_number a.fault)) a.image.now l.bytes a.n l.i (omega arith) (omega arith) _ _ _ c.byte_within-read.ensures
-          ∙ l.invariant.2,
-    )
+pub loop-byte-preserved : goal.loop-byte-preserved
+loop-byte-preserved c =
+    let l = c.loop-byte in
+    one_more (bytes_repeat (within c.args.low c.args.high) (fault_number c.args.fault)) l.room l.byte-index l.reader (omega arith) c.in_ok-byte.field-0 c.byte_within.new.reader c.in_ok-byte.ensures ∙ l.invariant
+
+pub returns-in_err-byte : goal.returns-in_err-byte
+returns-in_err-byte c =
+    let l = c.loop-byte in
+    exits_into _ c.from_residual.result _ _ _ c.from_residual.ensures.1
+    (stopped (bytes_repeat (within c.args.low c.args.high) (fault_number c.args.fault)) l.room l.byte-index l.reader (omega arith) _ c.in_err-byte.ensures ∙ l.invariant)
 
 pub returns : goal.returns
-returns c =
-    let a = c.args in
-    no_more (bytes_repeat (within a.low a.high) (fault_number a.fault)) a.image.now c.loop-i.bytes a.n c.loop-i.i (omega arith) (omega arith) _
-    ∙ c.loop-i.invariant.2
+returns c = let l = c.loop-byte in full (bytes_repeat (within c.args.low c.args.high) (fault_number c.args.fault)) l.room l.byte-index l.reader (omega arith) ∙ l.invariant

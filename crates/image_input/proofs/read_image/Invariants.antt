@@ -3,5 +3,8 @@ use Rattle.std.proofs.Common.{◌≤◌, length, take}
 use Rattle.std.specs.Io.KnownBytes.{Consumes}
 use Rattle.image_input.proofs.read_image.Given as goal
 
-abbrev pub invariant-loop-turn : goal.invariant-loop-turn
-invariant-loop-turn g l = (l.have ≤ length l.image) × Consumes (g.R.Read.remaining l.initial.stdin) (g.R.Read.remaining l.stdin) (take l.have l.image)
+abbrev pub invariant-loop : goal.invariant-loop
+invariant-loop g l = record {
+  fits : l.len ≤ length l.image;
+  read : Consumes (g.R.Read.remaining l.initial.stdin) (g.R.Read.remaining l.stdin) (take l.len l.image);
+}

@@ -1,8 +1,5 @@
-use mathlib.Core.Path.{ap, ◌∙◌}
-use Prim.Native.Nat.{ℕ}
-use lib.ListN.{take}
-use Rattle.writing.proofs.Puts.{put_then, put_same}
+use Rattle.pages.proofs.Pages.{written_then}
 use Rattle.image_writer.proofs.put_counted.Goals as goal
 
 pub returns : goal.returns
-returns c = put_then c.put_byte-start.ensures (put_same (c.part.ensures ∙ ap (λ (n : ℕ). take n c.args.bytes.now) c.wide.ensures) c.put.ensures)
+returns c = rw (c.part.ensures, c.from.ensures) at (written_then c.put.ensures c.put-2.ensures)

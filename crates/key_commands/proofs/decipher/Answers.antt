@@ -1,42 +1,19 @@
-use mathlib.Core.Path.{ap, ◌∙◌}
-use Rattle.rules.specs.declared.Session.{Session}
-use Rattle.rules.specs.Answers.{session_status}
-use Rattle.steps.specs.Steps.{session_output_for}
-use Rattle.key_commands.proofs.Ciphers.{joined_too_long, not_whole, whole_length, chained, whole}
+use mathlib.Core.Path.{◌≡◌}
+use mathlib.Core.List.{◌++◌}
+use Prim.Native.Nat.{◌+◌, ◌≤◌}
+use native.Mathlib.Omega.{arith}
+use lib.ListN.{length, take}
+use Rattle.std.proofs.lemmas.Grind.{common_steps}
+use Rattle.std.proofs.lemmas.Bool.Decides.{nat_tests}
+use Rattle.rules.specs.Session.{chain_bytes}
+use Rattle.rules.specs.KeyCommands.{decipher}
+use Rattle.key_commands.proofs.Blocks.{chain_whole}
 use Rattle.key_commands.proofs.decipher.Goals as goal
 
-pub returns-then-len-gt257 : goal.returns-then-len-gt257
-returns-then-len-gt257 c =
-    let a = c.args in
-    c.session_status.ensures
-    ∙ ap session_output_for
-    (ap (λ (s : Session). session_status s 0x6700) c.drop_chain.ensures
-    ∙ joined_too_long a.codes a.references a.s a.h a.d.now c.chain_length.ensures c.sum_within-len.ensures c.if-len-gt257.true)
-
 pub returns-then-h-eq16 : goal.returns-then-h-eq16
+unfolding decipher
 returns-then-h-eq16 c =
-    let a = c.args in
-    c.session_status-then-h-eq16.ensures
-    ∙ ap session_output_for
-    (ap (λ (s : Session). session_status s 0x9000) c.with_chain.ensures
-    ∙ chained a.codes a.references a.s a.h a.d.now c.chain_length.ensures c.sum_within-len.ensures c.if-len-gt257.false c.joined-both.ensures c.part-cryptogram.ensures c.if-h-eq16.true)
-
-pub returns-then-len-ne257 : goal.returns-then-len-ne257
-returns-then-len-ne257 c =
-    let a = c.args in
-    c.session_status-then-len-ne257.ensures
-    ∙ ap session_output_for
-    (ap (λ (s : Session). session_status s 0x6700) c.drop_chain-then-len-ne257.ensures
-    ∙ not_whole a.codes a.references a.s a.h a.d.now c.chain_length.ensures c.sum_within-len.ensures c.if-len-gt257.false c.if-h-eq16.false c.if-len-ne257.true)
-
-pub decipher_whole-requires : goal.decipher_whole-requires
-decipher_whole-requires c =
-    let a = c.args in
-    whole_length a.codes a.references a.s a.h a.d.now c.chain_length.ensures c.sum_within-len.ensures c.if-len-gt257.false c.joined-both.ensures c.part-cryptogram.ensures c.if-len-ne257.false
-
-pub returns : goal.returns
-returns c =
-    let a = c.args in
-    c.decipher_whole.ensures
-    ∙ ap session_output_for
-    (whole a.codes a.references a.s a.h a.d.now c.chain_length.ensures c.sum_within-len.ensures c.if-len-gt257.false c.joined-both.ensures c.part-cryptogram.ensures c.if-h-eq16.false c.if-len-ne257.false)
+    let count : c.saturating_add-len.result ≡ length (chain_bytes c.args.s) + length c.args.d.now = grind (arith, common_steps) in
+    let whole : take 257 c.part.result.now ≡ chain_bytes c.args.s ++ c.args.d.now = grind (arith, chain_whole) in
+    let fits : length (chain_bytes c.args.s ++ c.args.d.now) ≤ 257 = grind (arith, common_steps) in
+    simp (c.session_status-then-h-eq16.ensures, c.with_chain-chained.ensures, whole) (grind (arith, nat_tests))

@@ -1,5 +1,8 @@
-use Rattle.octets.proofs.Chains.{filled_end}
+use mathlib.Core.Path.{◌∙◌}
+use native.Mathlib.Omega.{arith}
+use lib.ListN.{drop, length-drop}
+use lib.Seq.{take_all}
 use Rattle.key_commands.proofs.last_256.Goals as goal
 
 pub returns : goal.returns
-returns c = simp (c.filled_256.ensures, c.part.ensures) (filled_end 256 1 c.args.cryptogram.now c.requires)
+returns c = c.copy_from_slice.ensures.after ∙ take_all 256 (drop 1 c.args.cryptogram) (omega (arith, length-drop 1 c.args.cryptogram))

@@ -1,30 +1,20 @@
-use Rattle.std.proofs.Common.{arith, refl, take}
-use borrow.Author.Tests.{not-false}
-use Rattle.transcripts.specs.Consoles.{program_of}
-use Rattle.line_programs.proofs.Readings.{program_short, nothing_read, nothing_brought, more_read}
+use Rattle.std.proofs.Common.{Err, refl, take}
+use Rattle.line_programs.specs.declared.Stop.TheVariants.{NotRead, NotWritten}
+use Rattle.line_programs.proofs.Readings.{nothing_read, more_read, lends_still}
 use Rattle.line_programs.proofs.read_all.Goals as goal
 
-pub loop-turn-init : goal.loop-turn-init
-loop-turn-init g c =
-    let a = c.args in
-    (refl, nothing_read a.dialect (program_of a.dialect a.console a.line.now a.authentication.now a.signature.now) (program_short a.dialect a.console a.line.now a.authentication.now a.signature.now) c.requires)
+pub loop-init : goal.loop-init
+loop-init g c = nothing_read c.args.dialect c.args.console.now c.requires.held
 
-pub returns-then-not-turn : goal.returns-then-not-turn
-returns-then-not-turn g c =
-    let a = c.args in
-    let turn = c.read_some-turn in
-    let reading = turn.result.reading in
-    let input = take reading.count turn.new.input in
-    more_read a.dialect (program_of a.dialect a.console a.line.now a.authentication.now a.signature.now) (program_short a.dialect a.console a.line.now a.authentication.now a.signature.now) input c.loop-turn.invariant.1 turn.ensures.reading turn.ensures.bytes
-    turn.ensures.end (nothing_brought reading turn.new.input turn.ensures.reading) turn.ensures.reads (λ big. turn.ensures.front (omega (arith, big, c.loop-turn.invariant.0))) (λ big. turn.ensures.all (omega (arith, big, c.loop-turn.invariant.0)))
+pub answer_some-sent-requires-clause-bytes : goal.answer_some-sent-requires-clause-bytes
+answer_some-sent-requires-clause-bytes g c = lends_still c.args.dialect c.args.console.now c.requires.bytes c.loop.invariant
 
-pub loop-turn-preserved : goal.loop-turn-preserved
-loop-turn-preserved g c =
-    let a = c.args in
-    let turn = c.read_some-turn in
-    let input = take turn.result.reading.count turn.new.input in (
-      omega (arith, c.loop-turn.invariant.0),
-      more_read a.dialect (program_of a.dialect a.console a.line.now a.authentication.now a.signature.now) (program_short a.dialect a.console a.line.now a.authentication.now a.signature.now) input c.loop-turn.invariant.1 refl turn.ensures.bytes
-          (λ e. cc) (λ e. cc) turn.ensures.reads (λ big. turn.ensures.front (omega (arith, big, c.loop-turn.invariant.0)))
-          (λ big _. turn.ensures.all (omega (arith, big, c.loop-turn.invariant.0)) (turn.ensures.more (not-false _ c.if-not-turn.false))),
-    )
+pub returns-then-is_err : goal.returns-then-is_err
+returns-then-is_err g c =
+    let answered = c.answer_some-sent.ensures in
+    more_read c.args.dialect c.args.console.now c.loop.invariant (take c.in-Ok.n c.read.new.room) c.in-Ok.ensures.bytes.0 answered.held answered.written (Err NotWritten) refl refl (λ e. cc)
+
+pub loop-preserved : goal.loop-preserved
+loop-preserved g c =
+    let answered = c.answer_some-sent.ensures in
+    more_read c.args.dialect c.args.console.now c.loop.invariant (take c.in-Ok.n c.read.new.room) c.in-Ok.ensures.bytes.0 answered.held answered.written (Err NotRead) refl refl (λ e. c.if-is_err.ensures.negation)

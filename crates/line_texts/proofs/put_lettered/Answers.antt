@@ -1,8 +1,5 @@
-use mathlib.Core.Path.{ap}
-use Rattle.hexadecimal.specs.Hex.{hex_of}
-use Rattle.writing.proofs.Puts.{put_then, put_same}
-use Rattle.line_texts.proofs.Texts.{put_hex}
+use Rattle.pages.proofs.Pages.{written_then}
 use Rattle.line_texts.proofs.put_lettered.Goals as goal
 
 pub returns : goal.returns
-returns c = put_then c.put-start.ensures (put_same (ap hex_of c.part.ensures) (put_hex c.hex_at.ensures))
+returns c = rw c.part.ensures at (written_then c.put.ensures c.put_hex.ensures)

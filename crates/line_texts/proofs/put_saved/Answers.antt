@@ -1,5 +1,6 @@
-use Rattle.writing.proofs.Puts.{put_then}
+use Rattle.pages.proofs.Pages.{written_then, page_put}
+use Rattle.std.proofs.Common.{rules}
 use Rattle.line_texts.proofs.put_saved.Goals as goal
 
 pub returns : goal.returns
-returns c = put_then c.put_image-end.ensures c.put.ensures
+returns c = page_put (written_then c.put_image.ensures c.put.ensures) (search rules)

@@ -1,14 +1,13 @@
-use mathlib.Core.Path.{refl, sym, ◌∙◌}
-use native.Mathlib.Omega.{arith}
+use Rattle.std.proofs.Common.{◌&&◌, true, ◌∙◌, rules}
+use Rattle.std.proofs.lemmas.Iterator.{YieldsList-from_slice}
+use Rattle.std.proofs.lemmas.Iterator.Consumers.{fold_from_yields_List}
+use borrow.Author.Tests.{tests}
 use lib.Dec.{eqb}
-use Rattle.octets.proofs.Loops.{fold_more, fold_end}
+use Rattle.octets.proofs.Iterators.{all_fold}
 use Rattle.octets.proofs.all_zero.Goals as goal
 
-pub loop-i-init : goal.loop-i-init
-loop-i-init c = refl
-
-pub loop-i-preserved : goal.loop-i-preserved
-loop-i-preserved c = c.loop-i.invariant ∙ fold_more (λ x. eqb x 0) c.args.s.now c.loop-i.i c.loop-i.zero (omega arith)
-
 pub returns : goal.returns
-returns c = sym (c.loop-i.invariant ∙ fold_end (λ x. eqb x 0) c.args.s.now c.loop-i.i c.loop-i.zero (omega arith))
+returns c =
+    let s = c.args.s.now in
+    fold_from_yields_List _ (λ b x. b && eqb x 0) true _ c.fold.ensures.ran (YieldsList-from_slice s cc) (λ b x r q k. search (rules, tests))
+    ∙ all_fold (λ x. eqb x 0) s true

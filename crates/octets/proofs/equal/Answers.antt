@@ -1,25 +1,20 @@
-use mathlib.Core.Path.{refl, sym, ◌∙◌}
+use Rattle.std.proofs.Common.{◌&&◌, true, ◌∙◌, rules}
+use Rattle.std.proofs.lemmas.Iterator.{YieldsList-from_slice, YieldsList-from_zip}
+use Rattle.std.proofs.lemmas.Iterator.Consumers.{fold_from_yields_List}
 use native.Mathlib.Omega.{arith}
+use borrow.Author.Tests.{tests}
+use lib.Dec.{eqb}
 use Rattle.octets.proofs.Words.{unlike_length}
-use Rattle.octets.proofs.Loops.{same_more, same_end}
+use Rattle.octets.proofs.Iterators.{same_fold}
 use Rattle.octets.proofs.equal.Goals as goal
 
 pub returns-then-a-b : goal.returns-then-a-b
 returns-then-a-b c =
-    let s = c.args in
-    sym (unlike_length s.a.now s.b.now (λ e. omega arith))
+    let a = c.args.a.now in
+    let b = c.args.b.now in
+    fold_from_yields_List _ (λ k p. k && eqb p.0 p.1) true _ c.fold.ensures.ran
+    (YieldsList-from_zip (YieldsList-from_slice a cc) (YieldsList-from_slice b cc)) (λ k x r q w. search (rules, tests))
+    ∙ same_fold a b true (omega arith)
 
-pub loop-i-init : goal.loop-i-init
-loop-i-init c = (c.if-a-b.false, refl)
-
-pub loop-i-preserved : goal.loop-i-preserved
-loop-i-preserved c =
-    let l = c in
-    let s = l.args in
-    (l.loop-i.invariant.0, l.loop-i.invariant.1 ∙ same_more s.a.now s.b.now l.loop-i.i l.loop-i.alike (omega arith) (omega arith))
-
-pub returns : goal.returns
-returns c =
-    let l = c in
-    let s = l.args in
-    sym (l.loop-i.invariant.1 ∙ same_end s.a.now s.b.now l.loop-i.i l.loop-i.alike (omega arith) (omega arith))
+pub returns-else-a-b : goal.returns-else-a-b
+returns-else-a-b c = grind (arith, unlike_length)

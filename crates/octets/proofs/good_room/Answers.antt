@@ -1,13 +1,12 @@
-use mathlib.Core.Path.{◌≡◌}
-use lib.ListN.{length, take, drop}
-use Rattle.octets.specs.Octets.{Bytes, good_room}
-use mathlib.Core.Bool.{and-true}
-use Rattle.octets.proofs.Strings.{take_rest}
+use Rattle.std.proofs.Common.{arith}
+use Rattle.std.proofs.lemmas.Grind.{common_steps}
+use Rattle.octets.specs.Octets.{good_room}
 use Rattle.octets.proofs.good_room.Goals as goal
 
-pub returns : goal.returns
+pub returns-then-len-size : goal.returns-then-len-size
 unfolding good_room
-returns c =
-    let b : Bytes = c.args.bytes.now in
-    let unused : c.part.result.now ≡ take (length b) (drop c.args.len b) = c.part.ensures in
-    simp (c.all_zero-unused.ensures, unused, take_rest b c.args.len, and-true)
+returns-then-len-size c = grind (arith, common_steps)
+
+pub returns-else-len-size : goal.returns-else-len-size
+unfolding good_room
+returns-else-len-size c = grind (arith, common_steps)

@@ -1,19 +1,16 @@
-use mathlib.Core.Path.{◌≡◌, ap, ◌∙◌}
-use mathlib.Core.Bool.{cond}
-use mathlib.Core.List.{[], ◌∷◌}
-use lib.Dec.{eqb}
-use lib.ListN.{length, take}
-use Rattle.octets.specs.Octets.{Bytes}
-use Rattle.requests.specs.Requests.{line_feed}
-use Rattle.transcripts.specs.Transcript.{kept_line, finished}
-use Rattle.transcripts.proofs.Reading.{last_feed}
+use mathlib.Core.Path.{sym, ◌∙◌}
+use mathlib.Core.Path.{ap}
+use lib.ListN.{length}
+use borrow.Author.Tests.{eqb-true, eqb-false}
+use Rattle.transcripts.proofs.Reading.{none_open, one_open}
 use Rattle.transcripts.proofs.finish.Goals as goal
 
+pub returns-then-is_empty : goal.returns-then-is_empty
+returns-then-is_empty c =
+    let none = eqb-true (length c.held.result.now) 0 (sym c.is_empty.ensures ∙ c.if-is_empty.true) in
+    rw (none_open c.args.dialect c.args.console.now (ap length (sym c.held.ensures) ∙ none)) c.read.ensures
+
 pub returns : goal.returns
-unfolding finished
 returns c =
-    let a = c.args in
-    let came : Bytes = take a.console.line a.line.now in
-    let end : c.part-end.result.now ≡ cond (eqb (length (kept_line a.dialect came)) 0) [] (line_feed ∷ []) =
-    c.part-end.ensures ∙ ap (λ (b : Bytes). take (length b) (line_feed ∷ [])) c.part-n.ensures ∙ last_feed a.dialect came in
-    rw end at c.read.ensures
+    let some = eqb-false (length c.held.result.now) 0 (sym c.is_empty.ensures ∙ c.if-is_empty.false) in
+    rw (one_open c.args.dialect c.args.console.now (λ e. some (ap length c.held.ensures ∙ e))) c.read-2.ensures

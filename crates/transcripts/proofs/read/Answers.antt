@@ -1,51 +1,31 @@
-use Prim.Native.Nat.{ℕ, ◌+◌, ◌≤◌}
-use mathlib.Core.Path.{◌≡◌, refl, ap, ◌∙◌}
+use mathlib.Core.Path.{refl, sym, ap, ◌∙◌}
 use native.Mathlib.Omega.{arith}
-use lib.ListN.{length, drop, length-drop}
-use Rattle.octets.proofs.Strings.{take_rest}
+use Prim.Native.Nat.{◌+◌}
+use lib.ListN.{length, length-drop}
 use Rattle.octets.proofs.Pasting.{length_pasted}
 use Rattle.transcripts.specs.Consoles.{program_of}
-use Rattle.transcripts.proofs.Reading.{reached_start, reached_more, reached_end}
+use Rattle.transcripts.proofs.Runs.{some_feed}
+use Rattle.transcripts.proofs.Reading.{after, console_added, reached_start, reached_more, reached_end}
 use Rattle.transcripts.proofs.read.Goals as goal
 
-pub loop-at-init : goal.loop-at-init
-loop-at-init c =
+pub loop-n-init : goal.loop-n-init
+loop-n-init c =
     let a = c.args in
-    (omega arith, refl, reached_start a.dialect (program_of a.dialect a.console a.line.now a.authentication.now a.signature.now) a.input.now a.output.now)
+    (refl, omega arith, reached_start a.dialect (program_of a.dialect a.console.now) a.input.now a.output.now a.console.now refl)
 
-pub first_line-first-requires : goal.first_line-first-requires
-first_line-first-requires c = omega (arith, c.loop-at.invariant.1, c.loop-at.invariant.2.output.place)
+pub overflow_add-rest : goal.overflow_add-rest
+overflow_add-rest c = omega (arith, some_feed c.loop-n.rest.now c.in-Some.n (sym c.in-Some.is ∙ c.line_end.ensures))
 
-pub overflow_add-at : goal.overflow_add-at
-overflow_add-at c =
-    let rest : c.part.result.now ≡ drop c.loop-at.at c.args.input.now = c.part.ensures ∙ take_rest c.args.input.now c.loop-at.at in
-    let goes_on : (1 ≤ c.first_line-first.result.taken) × (c.loop-at.at + c.first_line-first.result.taken ≤ length c.args.input.now) = let input = c.args.input.now in
-    let at : ℕ = c.loop-at.at in
-    omega (arith, c.first_line-first.ensures.taken, ap length rest, length-drop at input, c.loop-at-test) in
-    omega (arith, goes_on)
-
-pub loop-at-smaller : goal.loop-at-smaller
-loop-at-smaller c =
-    let rest : c.part.result.now ≡ drop c.loop-at.at c.args.input.now = c.part.ensures ∙ take_rest c.args.input.now c.loop-at.at in
-    let goes_on : (1 ≤ c.first_line-first.result.taken) × (c.loop-at.at + c.first_line-first.result.taken ≤ length c.args.input.now) = let input = c.args.input.now in
-    let at : ℕ = c.loop-at.at in
-    omega (arith, c.first_line-first.ensures.taken, ap length rest, length-drop at input, c.loop-at-test) in
-    omega (arith, goes_on)
-
-pub loop-at-preserved : goal.loop-at-preserved
-loop-at-preserved c =
-    let rest : c.part.result.now ≡ drop c.loop-at.at c.args.input.now = c.part.ensures ∙ take_rest c.args.input.now c.loop-at.at in
-    let goes_on : (1 ≤ c.first_line-first.result.taken) × (c.loop-at.at + c.first_line-first.result.taken ≤ length c.args.input.now) = let input = c.args.input.now in
-    let at : ℕ = c.loop-at.at in
-    omega (arith, c.first_line-first.ensures.taken, ap length rest, length-drop at input, c.loop-at-test) in
+pub loop-n-preserved : goal.loop-n-preserved
+loop-n-preserved c =
     let a = c.args in
-    let size = ap length c.first_line-first.ensures.output.whole ∙ length_pasted c.loop-at.output c.loop-at.written _ in
-    (goes_on.1, size ∙ c.loop-at.invariant.1, reached_more a.dialect (program_of a.dialect a.console a.line.now a.authentication.now a.signature.now) a.input.now a.output.now c.loop-at.invariant.2 rest c.first_line-first.ensures)
-
-pub shape_of-output : goal.shape_of-output
-shape_of-output c = c.loop-at.invariant.1
+    let size = ap length c.end_line-written.ensures.output.whole ∙ length_pasted c.loop-n.output c.loop-n.written _ in
+    (size ∙ c.loop-n.invariant.0, omega (arith, length-drop (c.in-Some.n + 1) c.loop-n.rest.now), reached_more a.dialect (program_of a.dialect a.console.now) a.input.now a.output.now c.loop-n.invariant.2 c.in-Some.n (sym c.in-Some.is ∙ c.line_end.ensures) (after c.loop-n.rest.now (c.in-Some.n + 1)) c.end_line-written.ensures)
 
 pub returns : goal.returns
 returns c =
     let a = c.args in
-    reached_end a.dialect (program_of a.dialect a.console a.line.now a.authentication.now a.signature.now) a.input.now a.output.now c.loop-at.invariant.2 (omega (arith, c.loop-at-test)) c.tidied-held.ensures
+    let last = c.loop-n.console in
+    let rest = c.loop-n.rest.now in
+    reached_end a.dialect (program_of a.dialect a.console.now) a.input.now a.output.now c.loop-n.invariant.2 (sym c.in_default.is ∙ c.line_end.ensures)
+    (console_added a.dialect last rest c.most.ensures c.add.new.self c.add.ensures c.tidy.ensures c.tidy-2.ensures c.tidy-3.ensures)

@@ -1,25 +1,25 @@
-use mathlib.Core.Path.{◌≡◌, refl, ◌∙◌}
-use native.Mathlib.Omega.{arith}
-use native.Mathlib.Numerals.{add-one}
-use lib.ListN.{replicate, length-set, length-replicate}
-use lib.Seq.{paste-zero}
-use Rattle.octets.proofs.Pasting.{paste_byte, paste_fitting}
+use Rattle.std.proofs.Common.{◌+◌, ◌-◌, ◌∙◌, sym, ◌≡◌, ℕ, zero, suc, List, [], ◌∷◌, ◌++◌, refl, ap, take, replicate, arith, add-one}
+use Rattle.std.proofs.Math.Seq.{take-suc-set, take_all}
+use Rattle.std.proofs.lemmas.List.{take-replicate, length-replicate}
+use Rattle.octets.proofs.Pasting.{pasted_part}
 use Rattle.writing.proofs.fill.Goals as goal
 
-pub loop-j-init : goal.loop-j-init
-loop-j-init c =
-    let s = c.args in
-    (omega arith, refl, paste-zero s.dst.now s.at (replicate s.n s.byte))
+replicate_more : (n b : ℕ) → replicate n b ++ b ∷ [] ≡ replicate (suc n) b
+replicate_more zero b = refl
+replicate_more (suc n) b = ap (λ (l : List ℕ). b ∷ l) (replicate_more n b)
 
-pub loop-j-preserved : goal.loop-j-preserved
-loop-j-preserved c =
-    let l = c in
-    let s = l.args in
-    (omega arith, simp length-set l.loop-j.invariant.1, rw (add-one, l.loop-j.invariant.2) (paste_byte s.dst.now s.at s.n s.byte l.loop-j.j (omega arith) (omega arith)))
+pub loop-place-preserved : goal.loop-place-preserved
+loop-place-preserved c =
+    let l = c.loop-place in
+    rw (add-one, take-suc-set l.place-items l.place-index c.args.byte (omega arith), l.invariant) (replicate_more l.place-index c.args.byte)
 
 pub returns : goal.returns
 returns c =
-    let f = c in
-    let s = f.args in
-    let all : c.loop-j.j ≡ f.fitting-count.result = omega arith in
-    c.loop-j.invariant.2 ∙ rw all (paste_fitting s.dst.now s.at (replicate s.n s.byte) f.fitting-count.result (rw length-replicate f.fitting-count.ensures))
+    let l = c.loop-place in
+    let count = c.min-count.result in
+    let k = c.min-start.result + count - c.min-start.result in
+    let cut : k ≡ count = omega arith in
+    let all : take l.place-index l.place-items ≡ l.place-items = take_all l.place-index l.place-items (omega arith) in
+    let size : l.place-index ≡ k = omega arith in
+    let filled : l.place-items ≡ take k (replicate c.args.n c.args.byte) = sym all ∙ rw (l.invariant, size, cut, take-replicate count c.args.n c.args.byte (omega arith)) in
+    pasted_part c.args.dst.now c.args.at (replicate c.args.n c.args.byte) l.place-items c.min-start.result k (omega arith) (rw (length-replicate c.args.n c.args.byte) (omega arith)) filled
