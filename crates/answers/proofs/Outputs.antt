@@ -1,13 +1,12 @@
 -- The output that holds an answer, a law for each of its constructors; and what is written of an output, a law for each way.
 use mathlib.Core.Path.{◌≡◌, refl, sym, ap, ◌∙◌}
-use mathlib.Core.Logic.{◌≢◌}
 use mathlib.Core.Bool.{true, ◌&&◌}
 use Prim.Native.Nat.{ℕ, zero, suc, ◌+◌, ◌/◌, ◌%◌, ◌<◌, ◌≤◌}
 use native.Mathlib.Omega.{arith}
-use lib.Dec.{eqb, leb}
+use lib.Dec.{leb}
 use lib.ListN.{length, take, set, length-take}
 use lib.Seq.{take_all}
-use borrow.Author.Tests.{eq-eqb, ne_eqb, lt-ltb, le-ltb, leb-true, eqb-true}
+use borrow.Author.Tests.{lt-ltb, le-ltb, leb-true}
 use Rattle.octets.specs.Octets.{Bytes, pasted, filled}
 use Rattle.octets.proofs.Tests.{and_left, and_right}
 use Rattle.octets.proofs.Strings.{take_filled}
@@ -47,22 +46,22 @@ pub read_back : (a : Answer) → fits a ≡ true → output_of (output_for a) �
 unfolding output_for output_of fits
 read_back (response d sw) f = simp (take_filled 256 d (leb-true (length d) 256 f))
 read_back (job kind key block) f =
-    let whole : length block ≡ 256 = eqb-true (length block) 256 (and_left _ (leb 1 kind && leb kind 3) f) in
-    let range : (leb 1 kind && leb kind 3) ≡ true = and_right (eqb (length block) 256) _ f in
+    let short : length block ≤ 256 = leb-true (length block) 256 (and_left _ (leb 1 kind && leb kind 3) f) in
+    let range : (leb 1 kind && leb kind 3) ≡ true = and_right (leb (length block) 256) _ f in
     let some : 1 ≤ kind = leb-true 1 kind (and_left _ (leb kind 3) range) in
     let most : kind ≤ 3 = leb-true kind 3 (and_right (leb 1 kind) _ range) in
-    simp (kind_itself kind some most, room_filled block whole)
+    simp (kind_itself kind some most, take_filled 256 block short)
 
--- The output of response data, in the first of 256 bytes; and that of a job.
+-- The output of response data, in the first of 256 bytes; and that of a job with a whole block.
 pub data_output : (d : Bytes) (sw : ℕ) {s bytes : Bytes} → s ≡ take 256 d → bytes ≡ filled 256 (take 256 d)
     → Response (record { bytes = bytes; len = length s }) sw ≡ output_for (response (take 256 d) sw)
 unfolding output_for
 data_output d sw e f = simp (e, f)
 
 pub job_output : (kind : JobKind) (key : ℕ) (block : Bytes) → length block ≡ 256
-    → Job kind key block ≡ output_for (job (kind_number kind) key block)
+    → Job kind key (record { bytes = block; len = 256 }) ≡ output_for (job (kind_number kind) key block)
 unfolding output_for
-job_output kind key block whole = simp (kind_again kind, room_filled block whole)
+job_output kind key block whole = simp (kind_again kind, room_filled block whole, whole)
 
 -- The first n bytes of an array of 256.
 pub at_most_256 : (bytes : Bytes) (n : ℕ) {s : Bytes} → s ≡ take n bytes → 256 ≡ length bytes → length s ≤ 256
@@ -92,7 +91,7 @@ module _ (buffer : Bytes) (c : Card) (room : 258 ≤ length buffer) where
   unfolding written
   response_written sw d e = simp (e.0, e.1)
 
-  pub job_written : (kind key : ℕ) (block : Bytes) {after : Bytes} → length block ≡ 256 → after ≡ pasted buffer 0 block
+  pub job_written : (kind key : ℕ) (block : Bytes) {after : Bytes} → length block ≤ 256 → after ≡ pasted buffer 0 block
       → record { returned = handed_out kind key; card = c; buffer = after } ≡ written buffer c (job kind key block)
   unfolding written
-  job_written kind key block whole copied = simp (copied, string_in_front buffer block (omega arith))
+  job_written kind key block short copied = simp (copied, string_in_front buffer block (omega arith))

@@ -18,17 +18,17 @@ kind_meant n = cond (eqb n 1) Authenticate (cond (eqb n 2) Sign Decipher)
 -- The output that holds an answer, with zeros in the unused places.
 unfoldable pub output_for : Answer → Output
 output_for (response d sw) = Response (record { bytes = filled 256 d; len = length d }) sw
-output_for (job kind key block) = Job (kind_meant kind) key (filled 256 block)
+output_for (job kind key block) = Job (kind_meant kind) key (record { bytes = filled 256 block; len = length block })
 
--- Whether an output has room for an answer: at most 256 bytes, and a job of kind 1 to 3 with a whole block.
+-- Whether an output has room for an answer: at most 256 bytes, and a job of kind 1 to 3.
 unfoldable pub fits : Answer → Bool
 fits (response d sw) = leb (length d) 256
-fits (job kind key block) = eqb (length block) 256 && (leb 1 kind && leb kind 3)
+fits (job kind key block) = leb (length block) 256 && (leb 1 kind && leb kind 3)
 
 -- The answer that an output holds.
 unfoldable pub output_of : Output → Answer
 output_of (Response d sw) = response (take d.len d.bytes) sw
-output_of (Job kind key block) = job (kind_number kind) key block
+output_of (Job kind key d) = job (kind_number kind) key (take d.len d.bytes)
 
 -- What a call returns and leaves in its buffer: an answer, written, or edge refusal 2.
 unfoldable pub written_or : Bytes → Card → Answer → Result

@@ -10,7 +10,8 @@ ghost use Rattle.answers.specs.Outputs.{output_for, output_of, written_or};
 
 use rules::{JobKind, Refusal, Reply};
 
-// Response data: the first len of these bytes, with zeros in the unused places. In fixed places, since there is no heap.
+// Response data or a job's block: the first len of these bytes, with zeros in the unused places. In fixed places, since there is no
+// heap.
 #[derive(Clone, Copy)]
 pub struct Data {
     pub bytes: [u8; 256],
@@ -22,7 +23,7 @@ pub struct Data {
 #[derive(Clone, Copy)]
 pub enum Output {
     Response(Data, u16),
-    Job(JobKind, u16, [u8; 256]),
+    Job(JobKind, u16, Data),
 }
 
 // A status word alone.
@@ -46,7 +47,11 @@ pub fn with_data(d: &[u8], sw: u16) -> Output
 pub fn handed_out(kind: JobKind, key: u16, block: [u8; 256]) -> Output
     ensures { result ≡ output_for (job (kind_number kind) key block) }
 {
-    Output::Job(kind, key, block)
+    let data = Data {
+        bytes: block,
+        len: 256,
+    };
+    Output::Job(kind, key, data)
 }
 
 // Data and a status word, written to a buffer that has room for them.
@@ -73,8 +78,9 @@ pub fn write(output: Output, buffer: &mut [u8]) -> Result<Reply, Refusal>
     }
     match output {
         Output::Response(data, sw) => Ok(Reply::Response(write_response(data, sw, buffer))),
-        Output::Job(kind, key, block) => {
-            writing::copy_at(buffer, 0, &block);
+        Output::Job(kind, key, data) => {
+            let block = octets::part(&data.bytes, 0, data.len);
+            writing::copy_at(buffer, 0, block);
             Ok(Reply::HandedOut(kind, key))
         }
     }

@@ -5,10 +5,10 @@ use Rattle.std.specs.Prelude.{Result as AnyResult, Ok, Err}
 use Rattle.std.specs.Result.{IsErrAnd}
 use Rattle.std.proofs.lemmas.Result.{err_from_is_err_and}
 use Rattle.rules.specs.declared.Reply.{Reply}
-use Prim.Native.Nat.{ℕ, ◌≤◌, ◌<◌}
+use Prim.Native.Nat.{ℕ, ◌≤◌}
 use native.Mathlib.Omega.{arith}
 use lib.ListN.{length}
-use borrow.Author.Tests.{eqb-true, eq-eqb, not-false, ltb-false, le-ltb, le-leb}
+use borrow.Author.Tests.{eqb-true, not-false, ltb-false, le-ltb, le-leb}
 use Rattle.octets.specs.Octets.{Bytes, all_bytes}
 use Rattle.rules.specs.declared.Card.{Card}
 use Rattle.rules.specs.declared.Header.{Header}
@@ -37,7 +37,7 @@ own_fits : (E : Bytes → Type 0) (s : Session) (d : Bytes) (a : Answer) → Fit
 unfolding fits
 own_fits E s d (response shown sw) f = le-leb (length shown) 256 f.size
 own_fits E s d (job kind key block) f =
-    simp (eq-eqb (length block) 256 f.size, le-leb 1 kind f.least, le-leb kind 3 f.most)
+    simp (le-leb (length block) 256 (omega (arith, f.size)), le-leb 1 kind f.least, le-leb kind 3 f.most)
 
 response_fits : (a : Answer) → Fit nothing_more a → fits a ≡ true
 unfolding fits

@@ -1,12 +1,25 @@
 #![tactic(auto)]
 
-// The keys: their classes, which are present, and which is active. A key is its number, as commands, images and file 0033h name it, and
-// may be none that the card knows; so it is no enum. The two classes are a row each, as in the rules.
+// The kind of a job by its number, and the keys: their classes, which are present, and which is active. A key is its number, as commands,
+// images and file 0033h name it, and may be none that the card knows; so it is no enum. The two classes are a row each, as in the rules.
 ghost use Rattle.std.specs.Prelude.{◌≡◌};
 ghost use Rattle.rules.specs.Numbers.{kind_number};
 ghost use Rattle.rules.specs.Keys.{signature_key, authentication_key, of_class, present, usable, active_key};
+ghost use Rattle.keys.specs.Kinds.{kind_in};
 
 use rules::JobKind;
+
+// The kind of job that a number stands for: 3 for any but 1 and 2, so that each number has one. `try_from` refuses what is none of 1 to 3.
+#[tactic(auto, unfolding(crate::specs::Kinds::kind_in))]
+pub fn kind_of(number: u16) -> JobKind
+    ensures { kind_number result ≡ kind_in number }
+{
+    match number {
+        1 => JobKind::Authenticate,
+        2 => JobKind::Sign,
+        _ => JobKind::Decipher,
+    }
+}
 
 pub fn is_signature_key(key: u16) -> bool
     ensures { result ≡ signature_key key }

@@ -122,8 +122,12 @@ fn read_all<R: Read, W: Write, E: Write>(
                     return Err(Stop::NotWritten);
                 }
             }
-            Err(Failure::Interrupted) => continue,
-            Err(Failure::Said) => return Err(Stop::NotRead),
+            Err(why) => {
+                if why.reads_on() {
+                    continue;
+                }
+                return Err(Stop::NotRead);
+            }
         }
     }
     Err(Stop::NotRead)

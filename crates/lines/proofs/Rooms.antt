@@ -14,7 +14,7 @@ use Rattle.octets.proofs.Strings.{take_twice}
 use Rattle.octets.proofs.Cutting.{cut_front}
 use Rattle.octets.proofs.Pasting.{length_blank, zeros, pasted_front, pasted_own}
 use Rattle.lines.specs.declared.kept.Kept.{Kept}
-use Rattle.lines.specs.Rooms.{held, kept, held_over}
+use Rattle.lines.specs.Rooms.{held, kept, held_over, added}
 
 abbrev room : (n : ℕ) → Bytes → ℕ → Kept n
 room n b len = record { bytes = b; len = len }
@@ -120,6 +120,14 @@ module _ {n : ℕ} (k : Kept n) (size : length k.bytes ≡ n) where
       let first : have ≡ min k.len (min most n) = omega arith in
       let count : r ≡ min (have + length s) (min most n) = omega arith in
       more k.bytes s k.len (min most n) fits first w count ∙ cut_front (min most n) (held k) s
+
+  -- The room whole.
+  pub added_lem : (s : Bytes) {most place have sum r : ℕ} {after : Bytes} → most < 2 ^ 64 → place ≡ min most n → have ≡ min k.len place → after ≡ pasted k.bytes have s
+      → sum ≡ min (have + length s) 18446744073709551615 → r ≡ min sum place → room n after r ≡ added k s (min most n)
+  added_lem s {most} {place} {have} {sum} {r} {after} small p h w a e =
+      let first : have ≡ min k.len (min most n) = omega arith in
+      let count : r ≡ min (min k.len (min most n) + length s) (min most n) = omega arith in
+      rw (count, w, first)
 
   -- Zeros behind the string.
   pub tidy_lem : {m : ℕ} {after : Bytes} → m ≡ min k.len n → after ≡ pasted k.bytes m (replicate n 0) → room n after m ≡ kept n (held k)

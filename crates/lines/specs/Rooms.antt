@@ -1,5 +1,5 @@
 -- What a room holds of a string. No rule of the lines stands here.
-use Rattle.std.specs.Prelude.{ℕ, length, take}
+use Rattle.std.specs.Prelude.{ℕ, ◌+◌, min, length, take}
 use Rattle.octets.specs.Octets.{Bytes, filled, pasted}
 use Rattle.lines.specs.declared.kept.Kept.{Kept}
 
@@ -14,3 +14,7 @@ kept n b = record { bytes = filled n b; len = length b }
 -- A room after another string was put to its front.
 abbrev pub held_over : {n : ℕ} → Kept n → Bytes → Kept n
 held_over k b = record { bytes = pasted k.bytes 0 b; len = length b }
+
+-- A room after another string was added behind its own, within its first m bytes: the string is written whole, and counts as far as m.
+abbrev pub added : {n : ℕ} → Kept n → Bytes → ℕ → Kept n
+added k b m = record { bytes = pasted k.bytes (min k.len m) b; len = min (min k.len m + length b) m }

@@ -1,6 +1,6 @@
 // Strings in rooms of a fixed size.
 ghost use Rattle.std.specs.Prelude.{◌≡◌, ◌++◌, min, take};
-ghost use Rattle.lines.specs.Rooms.{held, kept, held_over};
+ghost use Rattle.lines.specs.Rooms.{held, kept, held_over, added};
 
 // A string in a room of N bytes: the first `len` of them, or all where `len` is greater. What stands behind does not count.
 #[derive(Clone, Copy)]
@@ -35,9 +35,11 @@ impl<const N: usize> Kept<N> {
         self.len = string.len().min(N);
     }
 
-    // Adds a string at the end, as much of it as fits within the first `most` bytes.
+    // Adds a string at the end, as much of it as fits within the first `most` bytes; what stands behind is written over as far as the
+    // string reaches.
     pub fn add(&mut self, string: &[u8], most: usize)
-        ensures { held self.new ≡ take (min most N) (held self.old ++ string.now) }
+        ensures held { held self.new ≡ take (min most N) (held self.old ++ string.now) }
+        ensures whole { self.new ≡ added self.old string.now (min most N) }
     {
         let room = most.min(N);
         let have = self.len.min(room);

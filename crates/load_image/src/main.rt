@@ -5,13 +5,13 @@ use rules::{Card, Code};
 use std::io;
 use std::io::Write;
 
-// A name, and bytes in hex.
-fn put_bytes<W: Write>(text: &mut W, name: &str, bytes: &[u8]) -> io::Result<()> {
-    write!(text, "{name} ")?;
-    for byte in bytes {
-        write!(text, "{byte:02X}")?;
-    }
-    writeln!(text)
+// A name, and bytes in hex, at most 64.
+fn put_bytes<W: Write>(text: &mut W, name: &[u8], bytes: &[u8]) -> io::Result<()> {
+    let mut hex = [0u8; 128];
+    let end = hexadecimal::hex_at(&mut hex, 0, bytes);
+    text.write_all(name)?;
+    text.write_all(&hex[..end])?;
+    text.write_all(b"\n")
 }
 
 // A name, the digits and the tries left.
@@ -37,11 +37,11 @@ fn put_card<W: Write>(text: &mut W, card: &Card) -> io::Result<()> {
     put_code(text, "PIN1", card_codes::code_of(codes, Code::PIN1))?;
     put_code(text, "PIN2", card_codes::code_of(codes, Code::PIN2))?;
     put_keys(text, profile.keys)?;
-    put_bytes(text, "references", &profile.references)?;
+    put_bytes(text, b"references ", &profile.references)?;
     for record in profile.personal {
         put_bytes(
             text,
-            "record",
+            b"record ",
             octets::part(&record.bytes, 0, usize::from(record.len)),
         )?;
     }
@@ -59,9 +59,9 @@ fn put_loaded<W: Write>(text: &mut W, image: &[u8]) -> io::Result<()> {
 }
 
 // Puts the text of an image to the front of a room, and answers how long it is: at most 2,333 characters.
-fn put_text(image: &[u8], text: &mut [u8]) -> usize {
+fn put_text(image: &[u8], text: &mut [u8; 4096]) -> usize {
     let room = text.len();
-    let mut rest = text;
+    let mut rest = &mut text[..];
     let _ = put_loaded(&mut rest, image);
     room.saturating_sub(rest.len())
 }

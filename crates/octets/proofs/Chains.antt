@@ -3,7 +3,7 @@ use mathlib.Core.Path.{◌≡◌}
 use mathlib.Core.List.{◌++◌, append_assoc, append-nil}
 use Prim.Native.Nat.{ℕ, ◌+◌, ◌-◌, ◌≤◌}
 use native.Mathlib.Omega.{arith}
-use lib.ListN.{length, take, drop, length-append, length-take, length-drop}
+use lib.ListN.{length, take, length-append, length-take}
 use lib.Seq.{take_all, take-append_seam, take-append-add, drop-append-add}
 use Rattle.octets.specs.Octets.{Bytes, blank, filled, pasted}
 use Rattle.octets.proofs.Pasting.{length_blank, drop_zeros}

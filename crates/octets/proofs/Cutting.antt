@@ -3,13 +3,13 @@ use mathlib.Core.List.{◌++◌}
 use mathlib.Core.Path.{◌≡◌, sym, ap, ◌∙◌}
 use Prim.Native.Nat.{ℕ, ◌≤◌}
 use native.Mathlib.Omega.{arith}
-use lib.ListN.{length, take, drop, length-take, length-drop}
+use lib.ListN.{length, take, length-take}
 use lib.Dec.{leb}
 use lib.Seq.{take_all, take-append-le}
 use borrow.Author.Tests.{leb-true, leb-false}
 use Rattle.octets.specs.Octets.{Bytes}
 use Rattle.octets.proofs.Tests.{by_test}
-use Rattle.octets.proofs.Strings.{take_rest, take_twice}
+use Rattle.octets.proofs.Strings.{take_twice}
 
 -- The first n bytes are not cut at m, where n is at most m.
 pub uncut_first : (m n : ℕ) (b : Bytes) → n ≤ m → take m (take n b) ≡ take n b

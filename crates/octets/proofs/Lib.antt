@@ -1,5 +1,6 @@
 pub mod Buffers
 pub mod Lists
+pub mod Loops
 pub mod Pasting
 pub mod Strings
 pub mod Tests

@@ -143,6 +143,12 @@ pasted_part dst at src part a k p q e =
     let none : k ≡ 0 = omega arith in
     rw (e, end, none, pasted_past dst at src h, take_all (length dst) dst (omega arith), drop_of_length-le dst {i = length dst} (omega arith), append-nil dst))
 
+-- Where none of it fits, or there is none, all stays.
+pub pasted_none : (dst : Bytes) (at : ℕ) (src : Bytes) (a k : ℕ) → a ≡ min at (length dst) → k ≡ min (length src) (length dst - a) → k ≡ 0 → dst ≡ pasted dst at src
+pasted_none dst at src a k p q e =
+    let none : 0 ≡ min (length src) (length dst - a) = omega arith in
+    sym (take-append-drop a dst) ∙ pasted_part dst at src [] a 0 p none refl
+
 -- Behind a front that stays.
 pasted_inner : (a b s : Bytes) (k : ℕ) → pasted (a ++ b) (length a + k) s ≡ a ++ pasted b k s
 unfolding pasted

@@ -8,9 +8,6 @@ fn main(rt: HostRuntime) {
         &mut rt.stdout(),
         &mut rt.stderr(),
         b"usage: rewrite_image (it takes no arguments; an image is read from standard input)\n",
-        |image, text| {
-            text.first_chunk_mut::<1119>()
-                .map_or(0, |text| rewriting::rewrite(image, text))
-        },
+        rewriting::rewrite,
     );
 }

@@ -7,7 +7,7 @@ ghost use Rattle.std.specs.Prelude.{◌≡◌, ◌↔◌, OnErr, OnOk};
 ghost use Rattle.std.specs.IoError.{error_kind};
 ghost use Rattle.std.specs.Io.{ReadsAtMost};
 ghost use Rattle.std.specs.Io.KnownBytes.{Appends, ReadConsumes};
-ghost use Rattle.streams.specs.Streams.{AppendsFront, counted, arguments_for, written_for};
+ghost use Rattle.streams.specs.Streams.{AppendsFront, reads_on, counted, arguments_for, written_for};
 
 use std::env::FillError;
 use std::io;
@@ -20,6 +20,18 @@ use std::rt::Env;
 pub enum Failure {
     Interrupted,
     Said,
+}
+
+impl Failure {
+    // Whether to read on after a reading that failed.
+    pub fn reads_on(self) -> bool
+        ensures { result ≡ reads_on self }
+    {
+        match self {
+            Failure::Interrupted => true,
+            Failure::Said => false,
+        }
+    }
 }
 
 // More arguments than a program takes: how many the system says that there are, the program's name among them.

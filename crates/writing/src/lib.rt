@@ -6,13 +6,15 @@ ghost use Rattle.octets.specs.Octets.{pasted};
 ghost use Rattle.writing.specs.Puts.{Put};
 
 // Copies into dst, from index `at` on, as much of src as fits.
-#[tactic(auto, using(octets::proofs::Pasting::pasted_part))]
+#[tactic(auto, using(octets::proofs::Pasting::pasted_part, octets::proofs::Pasting::pasted_none))]
 pub fn copy_at(dst: &mut [u8], at: usize, src: &[u8])
     ensures { dst.new ≡ pasted dst.old at src.now }
 {
     let start = at.min(dst.len());
     let count = src.len().min(dst.len() - start);
-    dst[start..start + count].copy_from_slice(&src[..count]);
+    if count != 0 {
+        dst[start..start + count].copy_from_slice(&src[..count]);
+    }
 }
 
 // Writes `byte` into n places of dst, from index `at` on, or into those of them that dst has.

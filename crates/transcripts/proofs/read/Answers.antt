@@ -28,4 +28,4 @@ returns c =
     let last = c.loop-n.console in
     let rest = c.loop-n.rest.now in
     reached_end a.dialect (program_of a.dialect a.console.now) a.input.now a.output.now c.loop-n.invariant.2 (sym c.in_default.is ∙ c.line_end.ensures)
-    (console_added a.dialect last rest c.most.ensures c.add.new.self c.add.ensures c.tidy.ensures c.tidy-2.ensures c.tidy-3.ensures)
+    (console_added a.dialect last rest c.most.ensures c.add.new.self c.add.ensures.held c.tidy.ensures c.tidy-2.ensures c.tidy-3.ensures)
