@@ -31,14 +31,16 @@ pub fn read_image<R: Read, E: Write>(
 {
     let mut len = 0;
     for _ in 0..u64::MAX {
-        if len == image.len() {
-            return Ok(len);
-        }
         match streams::read(stdin, stderr, &mut image[len..]) {
             Ok(0) => return Ok(len),
-            Ok(n) => len += n,
+            Ok(n) => {
+                len += n;
+                if len == image.len() {
+                    return Ok(len);
+                }
+            }
             Err(why) => {
-                if why.reads_on() {
+                if why.reads_on() && len < image.len() {
                     continue;
                 }
                 return Err(Unfinished { len });

@@ -37,7 +37,8 @@ pub record Written (text : Bytes) (had has : Option Bytes) (r : Result (Unit {0}
   pub front : AppendsFront had has text
   pub whole : OnOk r (Appends had has text)
 
--- Some input was read from a program on, and the code holds the program after it. It was read to its end just where nothing failed.
+-- Some input was read from a program on, and the code holds the program after it. It was read to its end just where the outcome is Ok;
+-- what was answered is written then, and a flush there that failed was said.
 pub record SomeRead (d : Dialect) (p : Program) (left left' had has : Option Bytes) (c : Console) (r : Result (Unit {0}) Stop) : Type 0 where
   pub input : Bytes
   pub read : Consumes left left' input

@@ -3,7 +3,8 @@
 // The line programs: standard input read, answered and written to standard output.
 pub mod certificates;
 
-ghost use Rattle.std.specs.Prelude.{◌*◌, ◌<◌, ◌≤◌, IfErr, IfOk, length, take};
+ghost use Rattle.std.specs.Prelude.{◌*◌, ◌<◌, ◌≤◌, [], IfErr, IfOk, length, take};
+ghost use Rattle.std.specs.Io.KnownBytes.{Appends};
 ghost use Rattle.transcripts.specs.Transcript.{finished, run, most_text};
 ghost use Rattle.transcripts.specs.Consoles.{program_of, Holds};
 ghost use Rattle.line_programs.specs.Programs.{LendsBytes, Written, SomeRead, RanFrom, Ran};
@@ -15,8 +16,8 @@ use std::rt::Env;
 use streams::{Failure, Given};
 use transcripts::Console;
 
-// Why a line program stopped before all was read, answered and written: a reading failed, and what came before is answered; an answer
-// was not written whole; or that of the line which the end of the input left open was not.
+// Why a line program stopped before all was read, answered and written: a reading failed, and what came before is answered; a writing
+// failed, of an answer or a flush; or one at the end of the input, where a line that it left open is answered.
 #[derive(Clone, Copy, Debug, PartialEq, Eq)]
 pub enum Stop {
     NotRead,
@@ -42,6 +43,14 @@ fn written<W: Write, E: Write>(
     ensures { Written (take n output.now) (W.contents stdout.old) (W.contents stdout.new) result }
 {
     let outcome = streams::write_all(stdout, octets::part(output, 0, n));
+    streams::written_or_said(stderr, outcome)
+}
+
+// Flushes the output where there is nothing to write; where that fails, it is said.
+fn flushed<W: Write, E: Write>(stdout: &mut W, stderr: &mut E) -> Result<(), Failure>
+    ensures { Appends (W.contents stdout.old) (W.contents stdout.new) [] }
+{
+    let outcome = streams::write_all(stdout, b"");
     streams::written_or_said(stderr, outcome)
 }
 
@@ -115,7 +124,10 @@ fn read_all<R: Read, W: Write, E: Write>(
 {
     for _ in 0..u64::MAX {
         match streams::read(stdin, stderr, input) {
-            Ok(0) => return Ok(()),
+            Ok(0) => {
+                let _ = flushed(stdout, stderr);
+                return Ok(());
+            }
             Ok(n) => {
                 let sent = answer_some(dialect, console, &input[..n], stdout, stderr, output);
                 if sent.is_err() {
@@ -123,6 +135,10 @@ fn read_all<R: Read, W: Write, E: Write>(
                 }
             }
             Err(why) => {
+                let outcome = flushed(stdout, stderr);
+                if outcome.is_err() {
+                    return Err(Stop::NotWritten);
+                }
                 if why.reads_on() {
                     continue;
                 }

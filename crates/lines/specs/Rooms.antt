@@ -15,6 +15,7 @@ kept n b = record { bytes = filled n b; len = length b }
 abbrev pub held_over : {n : ℕ} → Kept n → Bytes → Kept n
 held_over k b = record { bytes = pasted k.bytes 0 b; len = length b }
 
--- A room after another string was added behind its own, within its first m bytes: the string is written whole, and counts as far as m.
+-- A room after another string was added behind its own, or behind the first m bytes of that: it is written as far as the room reaches,
+-- and counts as far as m.
 abbrev pub added : {n : ℕ} → Kept n → Bytes → ℕ → Kept n
 added k b m = record { bytes = pasted k.bytes (min k.len m) b; len = min (min k.len m + length b) m }

@@ -36,10 +36,10 @@ impl<const N: usize> Kept<N> {
     }
 
     // Adds a string at the end, as much of it as fits within the first `most` bytes; what stands behind is written over as far as the
-    // string reaches.
+    // string reaches. Of a longer string that is there the first `most` bytes stay.
     pub fn add(&mut self, string: &[u8], most: usize)
-        ensures held { held self.new ≡ take (min most N) (held self.old ++ string.now) }
         ensures whole { self.new ≡ added self.old string.now (min most N) }
+        ensures held { held self.new ≡ take (min most N) (held self.old ++ string.now) }
     {
         let room = most.min(N);
         let have = self.len.min(room);
