@@ -5,7 +5,7 @@ use mathlib.Core.List.{List, [], ◌∷◌, ◌++◌, append-nil}
 use Prim.Native.Nat.{ℕ, ◌+◌, ◌/◌, ◌%◌, ◌<◌}
 use native.Mathlib.Omega.{arith}
 use native.Mathlib.Numerals.{add-one}
-use lib.ListN.{length, take, get_or}
+use lib.ListN.{length, take, get_or, length-append}
 use lib.Seq.{take-suc}
 use Rattle.std.specs.Prelude.{count_by}
 use Rattle.octets.proofs.Tests.{by_test}
@@ -40,6 +40,9 @@ module _ (keys : List Bool) where
 
   pub keys_behind : (a b : List ℕ) → key_bytes (keys_among keys a) ++ key_bytes (keys_among keys b) ≡ key_bytes (keys_among keys (a ++ b))
   keys_behind a b = rw (keys_append a b) (sym (bytes_append (keys_among keys a) (keys_among keys b)))
+
+  pub key_counted : (k : ℕ) (a : List ℕ) → length (keys_among keys (k ∷ a)) ≡ length (keys_among keys (k ∷ [])) + length (keys_among keys a)
+  key_counted k a = ap length (keys_append (k ∷ []) a) ∙ length-append (keys_among keys (k ∷ [])) (keys_among keys a)
 
   -- One more of a list of known keys.
   pub key_more_there : (known : List ℕ) (i : ℕ) → i < length known → present keys (get_or known i 0) ≡ true

@@ -9,3 +9,4 @@ pub mod Parts
 pub mod Cutting
 pub mod Chains
 pub mod Iterators
+pub mod Filling

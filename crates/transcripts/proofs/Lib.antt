@@ -2,3 +2,4 @@ pub mod Runs
 pub mod Reading
 pub mod Keeping
 pub mod Output
+pub mod Ends
