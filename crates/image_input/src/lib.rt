@@ -3,7 +3,7 @@
 // A card image read from standard input, never more of it than its room holds, and the text of it that a program writes. No contract can
 // say which bytes the system brings (docs/DECISIONS.md); what follows from its answers is stated, and which bytes came and went where the
 // reader and the writer know them.
-ghost use Rattle.std.specs.Prelude.{◌≡◌, ◌<◌, ◌≤◌, IfOk, OnSome, length, take};
+ghost use Rattle.std.specs.Prelude.{◌≡◌, ◌<◌, ◌≤◌, IfErr, IfOk, OnSome, length, take};
 ghost use Rattle.std.specs.Io.KnownBytes.{Consumes, IsAtEnd};
 ghost use Rattle.image_input.specs.ImageInput.{came, Answered};
 
@@ -17,9 +17,9 @@ pub struct Unfinished {
     pub len: usize,
 }
 
-// Reads until the input ends, a reading fails or the room is full; a line program answers what came instead, turn by turn. A proved loop
-// has to end, and nothing says that the input does: so the loop has a number of turns that no run uses up, and behind them the input has
-// not ended.
+// Reads until the input ends, a reading fails or the room is full; a line program answers what came instead, turn by turn. A room that is
+// full was read, whatever its last reading says: an empty one is read once. A proved loop has to end, and nothing says that the input
+// does: so the loop has a number of turns that no run uses up, and behind them the input has not ended.
 pub fn read_image<R: Read, E: Write>(
     stdin: &mut R,
     stderr: &mut E,
@@ -27,6 +27,7 @@ pub fn read_image<R: Read, E: Write>(
 ) -> Result<usize, Unfinished>
     ensures fits { came result ≤ length image.old }
     ensures bytes { Consumes (R.remaining stdin.old) (R.remaining stdin.new) (take (came result) image.new) }
+    ensures short { IfErr result (λ unfinished. unfinished.len < length image.old) }
     ensures end { IfOk result (λ len. len < length image.old → IsAtEnd (R.remaining stdin.new)) }
 {
     let mut len = 0;
@@ -39,8 +40,9 @@ pub fn read_image<R: Read, E: Write>(
                     return Ok(len);
                 }
             }
+            Err(_) if len == image.len() => return Ok(len),
             Err(why) => {
-                if why.reads_on() && len < image.len() {
+                if why.reads_on() {
                     continue;
                 }
                 return Err(Unfinished { len });
@@ -80,4 +82,42 @@ pub fn answer<
     let end = put_text(&image[..len], &mut room);
     let outcome = streams::write_all(stdout, front(&room, end));
     streams::written_or_said(stderr, outcome).ok()
+}
+
+#[cfg(test)]
+mod tests {
+    use super::*;
+    use std::io;
+    use std::io::ErrorKind;
+
+    // A reader whose readings fail, and how many there were.
+    #[derive(Drop)]
+    struct Failing {
+        kind: ErrorKind,
+        readings: u8,
+    }
+
+    impl Read for Failing {
+        fn read(&mut self, _room: &mut [u8]) -> io::Result<usize> {
+            self.readings = self.readings.saturating_add(1);
+            Err(io::Error::from(self.kind))
+        }
+    }
+
+    // An empty room is full: it is read once, and what that reading answers is no failure of it.
+    #[test]
+    fn full_room_was_read(rt: HostRuntime) {
+        let cases = [
+            (ErrorKind::Interrupted, 0, Ok(0)),
+            (ErrorKind::ConnectionReset, 0, Ok(0)),
+            (ErrorKind::ConnectionReset, 1, Err(Unfinished { len: 0 })),
+        ];
+        for (kind, size, want) in cases {
+            let mut stdin = Failing { kind, readings: 0 };
+            let mut image = [0u8; 1];
+            let read = read_image(&mut stdin, &mut io::sink(), &mut image[..size]);
+            assert_eq!(rt; read, want, "{kind:?} in a room of {size}");
+            assert_eq!(rt; stdin.readings, 1, "{kind:?} in a room of {size}");
+        }
+    }
 }

@@ -19,5 +19,6 @@ pub loop-preserved : goal.loop-preserved
 loop-preserved g c =
     record {
       fits = search rules;
+      more = search rules;
       read = read_behind _ _ _ c.loop.image c.read.new.room c.loop.len c.in-Ok.n (search rules) (search rules) c.loop.invariant.read c.in-Ok.ensures.bytes.0;
     }
